@@ -1,0 +1,3 @@
+// What every refusal tells: its number, the layer that refused, and the spot.
+pub mod layer;
+pub mod refusal;

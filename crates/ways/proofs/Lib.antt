@@ -1,0 +1,4 @@
+pub mod Graph
+pub mod Metric
+pub mod Reaches
+pub mod Simple
