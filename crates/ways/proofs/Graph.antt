@@ -11,13 +11,8 @@ use Rattle.std.specs.declared.option.Option.the-variants.{None, Some}
 use Rattle.ways.specs.declared.row.Row.{Row}
 use Rattle.ways.specs.Way.{Hop, Joined, Leads, total, Way, Lawful, LawfulDuct}
 use Rattle.ways.specs.Options.{pick, AtMost, within, lesser, plus, through}
-use Rattle.ways.specs.Distance.{IsDistance}
+use Rattle.ways.specs.Distance.{Reached, IsDistance}
 use Rattle.ways.specs.Laws.{Distance-unique}
-
--- the distance, where there is one, is the length of a way
-abbrev pub Reached : List Row → ℕ → ℕ → Option ℕ → Type 0
-Reached ds u v None = Unit {0}
-Reached ds u v (Some d) = Way ds u v d
 
 pub here : (ds : List Row) (u : ℕ) → Way ds u u 0
 here ds u = ([], refl, refl)

@@ -10,9 +10,9 @@ use Rattle.std.specs.declared.option.Option.the-variants.{None, Some}
 use Rattle.ways.specs.declared.row.Row.{Row}
 use Rattle.ways.specs.Options.{AtMost}
 use Rattle.ways.specs.Way.{Hop, Joined, Leads, total, tos, Way, Lawful}
-use Rattle.ways.specs.Distance.{IsDistance, distance}
+use Rattle.ways.specs.Distance.{Reached, IsDistance, distance}
 use Rattle.ways.specs.Laws.{Distance-is, Distance-self, Distance-symmetric, Distance-triangle, Distance-bounded}
-use Rattle.ways.proofs.Graph.{Reached, reached, at-most, join, one-hop, back, to-in, some-length, unique}
+use Rattle.ways.proofs.Graph.{reached, at-most, join, one-hop, back, to-in, some-length, unique}
 use Rattle.ways.proofs.Simple.{Simple, simplify, few-hops, total-bound}
 use Rattle.ways.proofs.Reaches.{distance-is}
 

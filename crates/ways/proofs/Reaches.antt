@@ -13,9 +13,9 @@ use Rattle.std.specs.declared.option.Option.the-variants.{None, Some}
 use Rattle.ways.specs.declared.row.Row.{Row}
 use Rattle.ways.specs.Options.{pick, AtMost, within, lesser, plus}
 use Rattle.ways.specs.Way.{Hop, Joins, Joined, Leads, total, tos, Way, Lawful}
-use Rattle.ways.specs.Distance.{IsDistance, stay, over, begun, reach, distance}
+use Rattle.ways.specs.Distance.{Reached, IsDistance, stay, over, begun, reach, distance}
 use Rattle.ways.specs.Laws.{Distance-is}
-use Rattle.ways.proofs.Graph.{Reached, hop, is-distance, pick-has, lesser-left, lesser-right, weaken}
+use Rattle.ways.proofs.Graph.{hop, is-distance, pick-has, lesser-left, lesser-right, weaken}
 use Rattle.ways.proofs.Simple.{Simple, simplify, few-hops}
 
 stay-reached : (ds : List Row) (u v : ℕ) → Reached ds u v (stay u v)

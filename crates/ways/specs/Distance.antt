@@ -9,6 +9,11 @@ use Rattle.ways.specs.declared.row.Row.{Row}
 use Rattle.ways.specs.Way.{Hop, Leads, total, Way}
 use Rattle.ways.specs.Options.{pick, lesser, plus}
 
+-- a length that is told is that of some way
+abbrev pub Reached : List Row → ℕ → ℕ → Option ℕ → Type 0
+Reached ds u v None = Unit {0}
+Reached ds u v (Some d) = Way ds u v d
+
 -- absent where there is no way; else the length of some way, and no way is shorter
 abbrev pub IsDistance : List Row → ℕ → ℕ → Option ℕ → Type 0
 IsDistance ds u v None = (hs : List Hop) → Leads ds u hs v → ⊥

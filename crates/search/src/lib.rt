@@ -1,0 +1,2 @@
+// The search for distances over a closed frame, and the oracle that asks it.
+pub mod record;
