@@ -1,3 +1,5 @@
 pub mod Answers
 pub mod Faults
+pub mod Laws
 pub mod Meaning
+pub mod Walked

@@ -1,2 +1,11 @@
+pub mod Counts
+pub mod Follow
+pub mod Lights
+pub mod Memory
+pub mod Nears
+pub mod Parts
+pub mod Rules
 pub mod Steps
 pub mod Theory
+pub mod Told
+pub mod Visit

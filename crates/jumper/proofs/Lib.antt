@@ -1,0 +1,5 @@
+pub mod Added
+pub mod Nears
+pub mod Sounds
+pub mod Steps
+pub mod Verdicts

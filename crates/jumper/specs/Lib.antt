@@ -1,0 +1,3 @@
+pub mod Crossings
+pub mod Jumped
+pub mod Laws
