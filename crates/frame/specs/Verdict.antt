@@ -16,6 +16,7 @@ use Rattle.frame.specs.Rows.{paired}
 abbrev pub Verdict : Type 0
 Verdict = Result (Unit {0}) FrameFault
 
+-- no check fails
 abbrev pub accepted : Verdict
 accepted = Ok tt
 

@@ -4,6 +4,7 @@ ghost use Rattle.jumper.specs.Jumped.{verdict, accepted};
 use oracle::fault::OracleFault;
 use oracle::traits::DistanceOracle;
 
+// A duct of this length between a and b over the oracle below.
 #[derive(Drop)]
 pub struct Jumper<O> {
     pub(crate) below: O,
@@ -13,7 +14,7 @@ pub struct Jumper<O> {
 }
 
 impl<O> Jumper<O> {
-    // A duct of this length between a and b over an oracle. One that `check` refuses is not there: all is answered as below.
+    // Always makes one. A duct that `check` refuses is not there: all is answered as below.
     pub fn new(below: O, a: u32, b: u32, length: u32) -> Jumper<O>
         ensures { λ r. ⌜ (r .below ≡ below) × (r .a ≡ a) × (r .b ≡ b) × (r .length ≡ length) ⌝ }
     {
@@ -60,6 +61,7 @@ impl<O: DistanceOracle> Jumper<O> {
         Ok(())
     }
 
+    // Whether `check` accepts the duct.
     pub(crate) fn takes(&self) -> bool
         ensures { λ r. ⌜ r ≡ accepted (O·DistanceOracle .meaning (now (self .entry) .below) .count) (now (self .entry) .a) (now (self .entry) .b) (now (self .entry) .length) ⌝ }
     {

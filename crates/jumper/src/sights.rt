@@ -12,6 +12,7 @@ pub(crate) struct Sight {
     pub(crate) distance: u64,
 }
 
+// What is found without the duct.
 pub(crate) fn seen_here(found: Option<Near>) -> Option<Sight>
     ensures { λ r. ⌜ mapped near-of r ≡ found ⌝ }
 {
@@ -24,6 +25,7 @@ pub(crate) fn seen_here(found: Option<Near>) -> Option<Sight>
     }
 }
 
+// What is found from one end of the duct, from as far before its other end.
 pub(crate) fn seen_via(first: Option<u32>, length: u32, found: Option<Near>) -> Option<Sight>
     ensures { λ r. ⌜ mapped near-of r ≡ via first length found ⌝ }
 {
@@ -36,6 +38,7 @@ pub(crate) fn seen_via(first: Option<u32>, length: u32, found: Option<Near>) -> 
     }
 }
 
+// The nearer, and of the smaller number where both are as near.
 pub(crate) fn sooner_of(one: Option<Sight>, other: Option<Sight>) -> Option<Sight>
     ensures { λ r. ⌜ mapped near-of r ≡ sooner (mapped near-of one) (mapped near-of other) ⌝ }
 {

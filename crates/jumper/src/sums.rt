@@ -49,6 +49,7 @@ impl Sums {
     }
 }
 
+// The length of a way over the duct, where both of its parts have one.
 fn sum_of(first: Option<u32>, length: u32, last: Option<u32>) -> Option<u64>
     ensures { λ r. ⌜ r ≡ through first length last ⌝ }
 {
@@ -58,6 +59,7 @@ fn sum_of(first: Option<u32>, length: u32, last: Option<u32>) -> Option<u64>
     }
 }
 
+// The same length in 64 bits.
 fn widened(d: Option<u32>) -> Option<u64>
     ensures { λ r. ⌜ r ≡ d ⌝ }
 {
@@ -78,6 +80,7 @@ pub(crate) fn narrowed(d: Option<u64>) -> Option<u32>
     }
 }
 
+// Whether the first is no greater, where none is beyond every length.
 fn no_more(one: Option<u64>, other: Option<u64>) -> bool
     ensures { λ r. ⌜ r ≡ within one other ⌝ }
 {
@@ -88,6 +91,7 @@ fn no_more(one: Option<u64>, other: Option<u64>) -> bool
     }
 }
 
+// The lesser of two lengths.
 fn least_of(one: Option<u64>, other: Option<u64>) -> Option<u64>
     ensures { λ r. ⌜ r ≡ lesser one other ⌝ }
 {
@@ -107,6 +111,7 @@ pub(crate) fn known<O: DistanceOracle>(o: &mut O, u: u32, v: u32) -> Option<u32>
     }
 }
 
+// The three sums from u to v. Refuses what is no place.
 pub(crate) fn sums_of<O: DistanceOracle>(
     o: &mut O,
     a: u32,

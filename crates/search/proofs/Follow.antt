@@ -48,7 +48,7 @@ pub record Met (n : ℕ) (ds : List Row) (ls : List Arc) (u i : ℕ) (arc : Arc)
 pub met : (n : ℕ) (ds : List Row) (ls : List Arc) (u i : ℕ) (arc : Arc) → Lawful n ds → Neighbours ds u ls → i < length ls → arc ≡ arc-at ls i → Met n ds ls u i arc
 met n ds ls u i arc lawful near l e =
     let j : Joined ds u (arc .to) (arc .length) =
-        subst (λ (a : Arc). Joined ds u (a .to) (a .length)) (sym e) (all-getD (λ a. Joined ds u (a .to) (a .length)) ls i no-arc l (near .joined)) in
+    subst (λ (a : Arc). Joined ds u (a .to) (a .length)) (sym e) (all-getD (λ a. Joined ds u (a .to) (a .length)) ls i no-arc l (near .joined)) in
     record { is = e; joined = j; inside = to-in n ds u (arc .to) (arc .length) lawful j; short = no-longer n ds u (arc .to) (arc .length) lawful j }
 
 pub follow-all : (ds : List Row) (ls : List Arc) (u m s i : ℕ) (rs : List Record) (q : List SearchEntry) → Neighbours ds u ls → length ls ≤ i → Following ds ls u m i s rs q → Kept ds (Joined ds) s m (known rs) (done rs) q

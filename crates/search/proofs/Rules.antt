@@ -150,7 +150,7 @@ smallest-least F [] u = λ w len j h. j
 smallest-least F (d ∷ ds) u =
     least-both F d ds u _ (smallest F ds u)
     (least-one F d u (leading F (d .first) (d .second) (d .length) u) (leading F (d .second) (d .first) (d .length) u)
-      (at-end F (d .first) (d .second) (d .length) u) (at-end F (d .second) (d .first) (d .length) u))
+    (at-end F (d .first) (d .second) (d .length) u) (at-end F (d .second) (d .first) (d .length) u))
     (smallest-least F ds u)
 
 -- at most one hop is the least

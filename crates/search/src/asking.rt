@@ -47,7 +47,12 @@ impl PlainOracle {
         ensures meaning { λ _. ⌜ meaning-of (now (self .exit)) ≡ meaning-of (now (self .entry)) ⌝ }
         ensures focus { λ _. ⌜ focus-of (now (self .exit)) ≡ focus-of (now (self .entry)) ⌝ }
     {
-        run(&self.frame, self.records.as_mut_slice(), &mut self.queue, source);
+        run(
+            &self.frame,
+            self.records.as_mut_slice(),
+            &mut self.queue,
+            source,
+        );
     }
 
     // The way on from u to another place v: by the duct to the smallest place that begins a shortest way.

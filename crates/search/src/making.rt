@@ -62,6 +62,7 @@ impl PlainOracle {
     pub(crate) fn is_ready(&self) -> bool
         ensures { λ r. ⌜ r ≡ ready (now (self .entry)) ⌝ }
     {
-        self.records.len() >= self.frame.places() as usize && self.queue.room() > 2 * self.frame.len()
+        self.records.len() >= self.frame.places() as usize
+            && self.queue.room() > 2 * self.frame.len()
     }
 }

@@ -51,8 +51,8 @@ begun-reached ds [] u v f m r = tt
 begun-reached ds (e ∷ es) u v f m r =
     pick-has (Reached ds u v) (within both (begun es u f)) both (begun es u f)
     (pick-has (Reached ds u v) (within there back) there back
-      (over-reached ds (e .first) (e .second) (e .length) u v f (m (e .first) (e .second) (e .length) (inl (refl, inl (refl, refl)))) r)
-      (over-reached ds (e .second) (e .first) (e .length) u v f (m (e .second) (e .first) (e .length) (inl (refl, inr (refl, refl)))) r))
+    (over-reached ds (e .first) (e .second) (e .length) u v f (m (e .first) (e .second) (e .length) (inl (refl, inl (refl, refl)))) r)
+    (over-reached ds (e .second) (e .first) (e .length) u v f (m (e .second) (e .first) (e .length) (inl (refl, inr (refl, refl)))) r))
     (begun-reached ds es u v f (λ a b len j. m a b len (inr j)) r)
   where
     there : Option ℕ
@@ -69,7 +69,7 @@ begun-least [] u w len t f j h = absurd j
 begun-least (d ∷ ds) u w len t f (inl (e, inl p)) h =
     lesser-left (lesser there back) (begun ds u f) (len + t)
     (lesser-left there back (len + t)
-      (subst (λ (x : ℕ). AtMost there (x + t)) e (over-least (d .first) (d .second) (d .length) u t f (p .0) (subst (λ (x : ℕ). AtMost (f x) t) (sym (p .1)) h))))
+    (subst (λ (x : ℕ). AtMost there (x + t)) e (over-least (d .first) (d .second) (d .length) u t f (p .0) (subst (λ (x : ℕ). AtMost (f x) t) (sym (p .1)) h))))
   where
     there : Option ℕ
     there = over (d .first) (d .second) (d .length) u f
@@ -79,7 +79,7 @@ begun-least (d ∷ ds) u w len t f (inl (e, inl p)) h =
 begun-least (d ∷ ds) u w len t f (inl (e, inr p)) h =
     lesser-left (lesser there back) (begun ds u f) (len + t)
     (lesser-right there back (len + t)
-      (subst (λ (x : ℕ). AtMost back (x + t)) e (over-least (d .second) (d .first) (d .length) u t f (p .1) (subst (λ (x : ℕ). AtMost (f x) t) (sym (p .0)) h))))
+    (subst (λ (x : ℕ). AtMost back (x + t)) e (over-least (d .second) (d .first) (d .length) u t f (p .1) (subst (λ (x : ℕ). AtMost (f x) t) (sym (p .0)) h))))
   where
     there : Option ℕ
     there = over (d .first) (d .second) (d .length) u f
@@ -110,5 +110,5 @@ unfolding distance
 distance-is n ds u v lawful h =
     is-distance ds u v (reach ds n u v) (reach-reached ds n u v)
     (λ hs l.
-      let s : Simple ds u v (total hs) = simplify ds u v hs l in
-      weaken (reach ds n u v) (total (s .0)) (total hs) (reach-least ds n u v (s .0) (s .1) (omega (arith, few-hops n ds u v (total hs) lawful h s))) (s .2))
+    let s : Simple ds u v (total hs) = simplify ds u v hs l in
+    weaken (reach ds n u v) (total (s .0)) (total hs) (reach-least ds n u v (s .0) (s .1) (omega (arith, few-hops n ds u v (total hs) lawful h s))) (s .2))

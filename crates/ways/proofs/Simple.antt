@@ -66,6 +66,7 @@ simplify ds u v (h ∷ hs) l = go (simplify ds (h .to) v hs (l .1))
     last : (s : Simple ds (h .to) v (total hs)) → (Off u (h .to ∷ tos (s .0)) ⊎ Simple ds u v (total (s .0))) → Simple ds u v (h .length + total hs)
     last s (inl f) = (h ∷ s .0, (l .0, s .1), omega (arith, s .2), (f, s .3))
     last s (inr r) = (r .0, r .1, omega (arith, r .2, s .2), r .3)
+
     go : Simple ds (h .to) v (total hs) → Simple ds u v (h .length + total hs)
     go s = last s (cut ds u (h .to) v (s .0) (s .1) (s .3))
 

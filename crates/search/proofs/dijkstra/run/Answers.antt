@@ -70,7 +70,7 @@ loop-entry-less-then-not-record c =
     let unsettled : done (c .loop-entry .records) (c .in-Some .entry .place) ≡ false = not-true _ (c .if-not-record .taken) in
     let rs = settled-at (c .loop-entry .records) (c .in-Some .entry .place) in
     let same : left (degree (rows-of f)) (done (c .follow .last .records)) (places-of f) ≡ left (degree (rows-of f)) (done rs) (places-of f) =
-        left-same (degree (rows-of f)) (done rs) (done (c .follow .last .records)) (places-of f) (λ w _. c .follow .ensures .same w) in
+    left-same (degree (rows-of f)) (done rs) (done (c .follow .last .records)) (places-of f) (λ w _. c .follow .ensures .same w) in
     omega (arith, told .bag .shorter, v .lessens unsettled, c .follow .ensures .longer)
 
 pub loop-entry-again-then-not-record : need.loop-entry-again-then-not-record
@@ -82,8 +82,7 @@ loop-entry-again-then-not-record c =
     let unsettled : done (c .loop-entry .records) (c .in-Some .entry .place) ≡ false = not-true _ (c .if-not-record .taken) in
     let rs = settled-at (c .loop-entry .records) (c .in-Some .entry .place) in
     let same : left (degree (rows-of f)) (done (c .follow .last .records)) (places-of f) ≡ left (degree (rows-of f)) (done rs) (places-of f) =
-        left-same (degree (rows-of f)) (done rs) (done (c .follow .last .records)) (places-of f) (λ w _. c .follow .ensures .same w) in
-    (
+    left-same (degree (rows-of f)) (done rs) (done (c .follow .last .records)) (places-of f) (λ w _. c .follow .ensures .same w) in (
       c .follow .ensures .heaped,
       c .follow .ensures .room ∙ told .room ∙ c .loop-entry .inv .1,
       omega (arith, told .bag .shorter, told .room, v .lessens unsettled, c .follow .ensures .longer, c .follow .ensures .room, c .loop-entry .inv .2),
@@ -96,8 +95,7 @@ loop-entry-again c =
     let f = c .args .frame .now in
     let told = c .in-Some .ensures tt in
     let size = c .loop-entry .kept .records ∙ c .begin .kept .records ∙ c .pre .records in
-    let v = visit _ _ (closed-few f) (closed-lawful f) (c .loop-entry .records) size (c .args .source) (entries (c .loop-entry .queue)) (entries (c .pop .last .self)) (c .in-Some .entry) (c .pre .within) (c .loop-entry .inv .3) (told .bag .shuffled) (told .bag .first (c .loop-entry .inv .0)) in
-    (
+    let v = visit _ _ (closed-few f) (closed-lawful f) (c .loop-entry .records) size (c .args .source) (entries (c .loop-entry .queue)) (entries (c .pop .last .self)) (c .in-Some .entry) (c .pre .within) (c .loop-entry .inv .3) (told .bag .shuffled) (told .bag .first (c .loop-entry .inv .0)) in (
       told .heaped (c .loop-entry .inv .0),
       told .room ∙ c .loop-entry .inv .1,
       omega (arith, told .bag .shorter, told .room, c .loop-entry .inv .2),

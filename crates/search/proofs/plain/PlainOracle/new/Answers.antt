@@ -13,7 +13,7 @@ returns c =
     let f = rc-value (c .args .frame) in
     let is : c .places .result ≡ places-of f = c .places .ensures .value ∙ ap places-of (c .deref .ensures) in
     let cut : vec-len (c .fill .last .self) + (vec-len (c .args .records) - places-of f) ≡ vec-len (c .args .records) =
-        omega (arith, c .fill .ensures .len, c .truncate .ensures .len, is) in
+    omega (arith, c .fill .ensures .len, c .truncate .ensures .len, is) in
     record {
       frame = refl;
       meaning = cut-meaning (places-of f) (rows-of f) (vec-len (c .fill .last .self)) (vec-len (c .args .records)) (capacity (c .args .queue)) cut;

@@ -41,8 +41,12 @@ first-onward-requires c κs =
     let f = rc-value (o .frame) in
     let ls = c .neighbours .result .now in
     let near : Neighbours (rows-of f) (c .args .u) ls = subst (λ (g : ClosedFrame). Neighbours (rows-of g) (c .args .u) ls) (c .deref-2 .ensures ∙ ap rc-value (c .measure .ensures .frame)) (c .neighbours .ensures) in
-    λ i l. omega (arith, c .deref .ensures .len, c .measure .ensures .long,
-    ends-within (places-of f) (rows-of f) (closed-lawful f) (c .args .u) (c .args .v) (c .pre .from) (c .pre .goal) (c .pre .apart) (vec-items (c .measure .last .self .records)) (c .measure .ensures .found) ls near i l)
+    λ i l. omega (
+      arith,
+      c .deref .ensures .len,
+      c .measure .ensures .long,
+      ends-within (places-of f) (rows-of f) (closed-lawful f) (c .args .u) (c .args .v) (c .pre .from) (c .pre .goal) (c .pre .apart) (vec-items (c .measure .last .self .records)) (c .measure .ensures .found) ls near i l,
+    )
 
 pub returns-in-Some-first-onward : need.returns-in-Some-first-onward
 returns-in-Some-first-onward c =
