@@ -1,0 +1,3 @@
+// Tests of the plain oracle and of jumpers piled on it.
+#[cfg(test)]
+mod tests;
