@@ -33,17 +33,49 @@ use ways::near::NearPartialEq;
 use ways::row::Row;
 
 const WORKED: [Row; 5] = [
-    Row { first: 0, second: 1, length: 300 },
-    Row { first: 1, second: 2, length: 200 },
-    Row { first: 2, second: 3, length: 400 },
-    Row { first: 0, second: 3, length: 1000 },
-    Row { first: 3, second: 4, length: 150 },
+    Row {
+        first: 0,
+        second: 1,
+        length: 300,
+    },
+    Row {
+        first: 1,
+        second: 2,
+        length: 200,
+    },
+    Row {
+        first: 2,
+        second: 3,
+        length: 400,
+    },
+    Row {
+        first: 0,
+        second: 3,
+        length: 1000,
+    },
+    Row {
+        first: 3,
+        second: 4,
+        length: 150,
+    },
 ];
 
 const PARTS: [Row; 3] = [
-    Row { first: 0, second: 1, length: 7 },
-    Row { first: 1, second: 2, length: 7 },
-    Row { first: 3, second: 4, length: 9 },
+    Row {
+        first: 0,
+        second: 1,
+        length: 7,
+    },
+    Row {
+        first: 1,
+        second: 2,
+        length: 7,
+    },
+    Row {
+        first: 3,
+        second: 4,
+        length: 9,
+    },
 ];
 
 fn frame_of(heap: Global, places: u32, rows: &[Row]) -> Result<Rc<ClosedFrame>, Fail> {
@@ -71,7 +103,13 @@ fn oracle_of(heap: Global, rows: &[Row], records: usize, room: usize) -> Result<
 fn a_detour_is_shorter(rt: LibcRuntime) -> Result<(), Fail> {
     let mut o = oracle_of(rt.alloc(), &WORKED, 5, 11)?;
     check_eq(o.distance(0, 3), Ok(Some(900)))?;
-    check_eq(o.step(0, 3), Ok(Step::Next { place: 1, length: 300 }))?;
+    check_eq(
+        o.step(0, 3),
+        Ok(Step::Next {
+            place: 1,
+            length: 300,
+        }),
+    )?;
     check_eq(o.step(2, 2), Ok(Step::Here))?;
     check_eq(o.distance(7, 9), Err(OracleFault::NoPlace { place: 7 }))?;
     check_eq(o.step(0, 9), Err(OracleFault::NoPlace { place: 9 }))
@@ -85,7 +123,13 @@ fn two_parts_have_no_way(rt: LibcRuntime) -> Result<(), Fail> {
     check_eq(o.nearest(1), Ok(None)).note("nothing is in focus at first")?;
     check(o.focus(2).is_ok())?;
     check(o.focus(0).is_ok())?;
-    check_eq(o.nearest(1), Ok(Some(Near { place: 0, distance: 7 })))?;
+    check_eq(
+        o.nearest(1),
+        Ok(Some(Near {
+            place: 0,
+            distance: 7,
+        })),
+    )?;
     check_eq(o.nearest(4), Ok(None))?;
     o.clear();
     check_eq(o.nearest(1), Ok(None))
@@ -98,7 +142,10 @@ fn too_little_memory_is_no_places(rt: LibcRuntime) -> Result<(), Fail> {
     let mut narrow = oracle_of(rt.alloc(), &WORKED, 5, 10)?;
     check_eq(narrow.check(), Err(OracleFault::Entries { needed: 11 }))?;
     check_eq(narrow.places(), 0)?;
-    check_eq(narrow.distance(0, 0), Err(OracleFault::NoPlace { place: 0 }))?;
+    check_eq(
+        narrow.distance(0, 0),
+        Err(OracleFault::NoPlace { place: 0 }),
+    )?;
     let fault = OracleFault::Entries { needed: 11 };
     check_eq(fault.number(), 31)?;
     check_eq(fault.layer(), Layer::Oracle)?;
@@ -112,10 +159,22 @@ fn jumpers_pile(rt: LibcRuntime) -> Result<(), Fail> {
     check(pile.check().is_ok())?;
     check_eq(pile.distance(0, 3), Ok(Some(200)))?;
     check_eq(pile.distance(1, 4), Ok(Some(160)))?;
-    check_eq(pile.step(1, 4), Ok(Step::Next { place: 3, length: 10 }))?;
+    check_eq(
+        pile.step(1, 4),
+        Ok(Step::Next {
+            place: 3,
+            length: 10,
+        }),
+    )?;
     check(pile.focus(0).is_ok())?;
     check(pile.focus(2).is_ok())?;
-    check_eq(pile.nearest(3), Ok(Some(Near { place: 0, distance: 200 })))
+    check_eq(
+        pile.nearest(3),
+        Ok(Some(Near {
+            place: 0,
+            distance: 200,
+        })),
+    )
 }
 
 #[test]

@@ -1,0 +1,15 @@
+pub mod Follow
+pub mod Near
+pub mod Meets
+pub mod Nexts
+pub mod Rows
+pub mod Trunks
+pub mod Unique
+pub mod Walking
+pub mod Growing
+pub mod Costs
+pub mod Chosens
+pub mod Lighter
+pub mod Planning
+pub mod Pinned
+pub mod Outside

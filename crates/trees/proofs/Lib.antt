@@ -1,0 +1,7 @@
+pub mod Places
+pub mod Weight
+pub mod Sets
+pub mod Turned
+pub mod Growth
+pub mod Focus
+pub mod Groups

@@ -1,0 +1,4 @@
+pub mod Connected
+pub mod Growth
+pub mod Groups
+pub mod Laws
