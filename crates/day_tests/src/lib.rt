@@ -1,0 +1,3 @@
+// Tests of days of calls over the plain oracle and over jumpers.
+#[cfg(test)]
+mod tests;

@@ -1,0 +1,10 @@
+pub mod Build
+pub mod Exists
+pub mod Hubs
+pub mod Lengths
+pub mod Merging
+pub mod Nearness
+pub mod Prune
+pub mod Rules
+pub mod Searching
+pub mod Tables

@@ -1,0 +1,2 @@
+// What the rows of a table of labels tell.
+pub mod merge;

@@ -1,0 +1,6 @@
+mod Forms
+mod Front
+mod Lists
+mod Numbers
+pub mod Pages
+pub mod Texts

@@ -1,0 +1,5 @@
+pub mod Faults
+pub mod Laws
+pub mod Pages
+pub mod Said
+pub mod Text
