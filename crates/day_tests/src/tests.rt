@@ -28,14 +28,38 @@ use ways::row::RowDebug;
 use ways::row::RowPartialEq;
 
 const WORKED: [Row; 5] = [
-    Row { first: 0, second: 1, length: 300 },
-    Row { first: 1, second: 2, length: 200 },
-    Row { first: 2, second: 3, length: 400 },
-    Row { first: 0, second: 3, length: 1000 },
-    Row { first: 3, second: 4, length: 150 },
+    Row {
+        first: 0,
+        second: 1,
+        length: 300,
+    },
+    Row {
+        first: 1,
+        second: 2,
+        length: 200,
+    },
+    Row {
+        first: 2,
+        second: 3,
+        length: 400,
+    },
+    Row {
+        first: 0,
+        second: 3,
+        length: 1000,
+    },
+    Row {
+        first: 3,
+        second: 4,
+        length: 150,
+    },
 ];
 
-const NONE: Row = Row { first: 0, second: 0, length: 0 };
+const NONE: Row = Row {
+    first: 0,
+    second: 0,
+    length: 0,
+};
 
 fn oracle_of(heap: Global, places: u32, rows: &[Row]) -> Result<PlainOracle, Fail> {
     let mut frame = OpenFrame::new(heap, 8)?;
@@ -76,13 +100,25 @@ fn a_day_of_the_worked_example(rt: LibcRuntime) -> Result<(), Fail> {
     let mut trunk = [NONE; 4];
     let calls = [
         Call::Plan,
-        Call::Add { fitting: 0, places: &[0, 4] },
-        Call::Add { fitting: 1, places: &[2] },
-        Call::Add { fitting: 2, places: &[1, 3] },
+        Call::Add {
+            fitting: 0,
+            places: &[0, 4],
+        },
+        Call::Add {
+            fitting: 1,
+            places: &[2],
+        },
+        Call::Add {
+            fitting: 2,
+            places: &[1, 3],
+        },
         Call::Focus { place: 1 },
         Call::Plan,
         Call::Drop { fitting: 2 },
-        Call::Add { fitting: 0, places: &[1] },
+        Call::Add {
+            fitting: 0,
+            places: &[1],
+        },
         Call::Plan,
         Call::Drop { fitting: 1 },
         Call::Plan,
@@ -90,17 +126,57 @@ fn a_day_of_the_worked_example(rt: LibcRuntime) -> Result<(), Fail> {
     let answers = run(rt.alloc(), &mut oracle, &calls, &mut trunk)?;
     check(is_refused(answers.get(0), JobFault::NoneStanding))?;
     let three = [
-        Row { first: 3, second: 4, length: 150 },
-        Row { first: 2, second: 3, length: 400 },
+        Row {
+            first: 3,
+            second: 4,
+            length: 150,
+        },
+        Row {
+            first: 2,
+            second: 3,
+            length: 400,
+        },
     ];
-    check(is_laid(answers.get(5), Trunk { start: 4, ducts: 2, weight: 550 }, &three))?;
+    check(is_laid(
+        answers.get(5),
+        Trunk {
+            start: 4,
+            ducts: 2,
+            weight: 550,
+        },
+        &three,
+    ))?;
     check(is_refused(answers.get(7), JobFault::Stands { fitting: 0 }))?;
     let two = [
-        Row { first: 2, second: 1, length: 200 },
-        Row { first: 1, second: 0, length: 300 },
+        Row {
+            first: 2,
+            second: 1,
+            length: 200,
+        },
+        Row {
+            first: 1,
+            second: 0,
+            length: 300,
+        },
     ];
-    check(is_laid(answers.get(8), Trunk { start: 0, ducts: 2, weight: 500 }, &two))?;
-    check(is_laid(answers.get(10), Trunk { start: 0, ducts: 0, weight: 0 }, &[]))
+    check(is_laid(
+        answers.get(8),
+        Trunk {
+            start: 0,
+            ducts: 2,
+            weight: 500,
+        },
+        &two,
+    ))?;
+    check(is_laid(
+        answers.get(10),
+        Trunk {
+            start: 0,
+            ducts: 0,
+            weight: 0,
+        },
+        &[],
+    ))
 }
 
 #[test]
@@ -109,16 +185,38 @@ fn over_a_jumper(rt: LibcRuntime) -> Result<(), Fail> {
     let mut oracle = Jumper::new(plain, 4, 1, 10);
     let mut trunk = [NONE; 5];
     let calls = [
-        Call::Add { fitting: 7, places: &[4] },
-        Call::Add { fitting: 3, places: &[2] },
+        Call::Add {
+            fitting: 7,
+            places: &[4],
+        },
+        Call::Add {
+            fitting: 3,
+            places: &[2],
+        },
         Call::Plan,
     ];
     let answers = run(rt.alloc(), &mut oracle, &calls, &mut trunk)?;
     let ducts = [
-        Row { first: 4, second: 1, length: 10 },
-        Row { first: 1, second: 2, length: 200 },
+        Row {
+            first: 4,
+            second: 1,
+            length: 10,
+        },
+        Row {
+            first: 1,
+            second: 2,
+            length: 200,
+        },
     ];
-    check(is_laid(answers.get(2), Trunk { start: 2, ducts: 2, weight: 210 }, &ducts))
+    check(is_laid(
+        answers.get(2),
+        Trunk {
+            start: 2,
+            ducts: 2,
+            weight: 210,
+        },
+        &ducts,
+    ))
 }
 
 #[test]
@@ -126,16 +224,33 @@ fn two_places_without_a_duct(rt: LibcRuntime) -> Result<(), Fail> {
     let mut oracle = oracle_of(rt.alloc(), 2, &[])?;
     let mut trunk = [NONE; 1];
     let calls = [
-        Call::Add { fitting: 0, places: &[0] },
-        Call::Add { fitting: 1, places: &[1] },
+        Call::Add {
+            fitting: 0,
+            places: &[0],
+        },
+        Call::Add {
+            fitting: 1,
+            places: &[1],
+        },
         Call::Plan,
         Call::Drop { fitting: 1 },
-        Call::Add { fitting: 1, places: &[0] },
+        Call::Add {
+            fitting: 1,
+            places: &[0],
+        },
         Call::Plan,
     ];
     let answers = run(rt.alloc(), &mut oracle, &calls, &mut trunk)?;
     check(is_refused(answers.get(2), JobFault::NoSet { fittings: 2 }))?;
-    check(is_laid(answers.get(5), Trunk { start: 0, ducts: 0, weight: 0 }, &[]))?;
+    check(is_laid(
+        answers.get(5),
+        Trunk {
+            start: 0,
+            ducts: 0,
+            weight: 0,
+        },
+        &[],
+    ))?;
     let mut short: [Row; 0] = [];
     let again = run(rt.alloc(), &mut oracle, &calls, &mut short)?;
     check(is_refused(again.get(2), JobFault::Trunk { needed: 1 }))

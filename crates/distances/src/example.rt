@@ -43,7 +43,7 @@ const DUCTS: [Row; 5] = [
 ];
 
 // Five places and five ducts.
-pub fn worked_frame(heap: Global) -> Result<ClosedFrame, AnyError> {
+pub(crate) fn worked_frame(heap: Global) -> Result<ClosedFrame, AnyError> {
     let mut frame = OpenFrame::new(heap, 5)?;
     if frame.begin(5).is_err() {
         return Err("the frame refuses its places".into());
@@ -57,7 +57,7 @@ pub fn worked_frame(heap: Global) -> Result<ClosedFrame, AnyError> {
 }
 
 // The places, most ducts first.
-pub fn ranking(heap: Global, frame: &ClosedFrame) -> Result<Vec<u32>, AnyError> {
+pub(crate) fn ranking(heap: Global, frame: &ClosedFrame) -> Result<Vec<u32>, AnyError> {
     let places = frame.places() as usize;
     let mut order = Vec::from_elem(heap, 0u32, places)?;
     let mut queue: Heap<RankEntry> = Heap::new(heap, places)?;
@@ -68,7 +68,7 @@ pub fn ranking(heap: Global, frame: &ClosedFrame) -> Result<Vec<u32>, AnyError> 
 }
 
 // A plain oracle with all the memory that it wants.
-pub fn plain_oracle(heap: Global, frame: Rc<ClosedFrame>) -> Result<PlainOracle, AnyError> {
+pub(crate) fn plain_oracle(heap: Global, frame: Rc<ClosedFrame>) -> Result<PlainOracle, AnyError> {
     let blank = Record {
         distance: None,
         settled: false,

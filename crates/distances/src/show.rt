@@ -4,7 +4,7 @@ use oracle::traits::DistanceOracle;
 use oracle::walk::walk;
 use std::error::AnyError;
 
-pub fn show_frame(rt: &LibcRuntime, frame: &ClosedFrame) -> Result<(), AnyError> {
+pub(crate) fn show_frame(rt: &LibcRuntime, frame: &ClosedFrame) -> Result<(), AnyError> {
     let places = frame.places();
     let ducts = frame.len();
     println!(rt, "Frame: {places} places, {ducts} ducts")?;
@@ -19,7 +19,7 @@ pub fn show_frame(rt: &LibcRuntime, frame: &ClosedFrame) -> Result<(), AnyError>
     Ok(())
 }
 
-pub fn show_order(rt: &LibcRuntime, order: &[u32]) -> Result<(), AnyError> {
+pub(crate) fn show_order(rt: &LibcRuntime, order: &[u32]) -> Result<(), AnyError> {
     print!(rt, "Ranking:")?;
     for place in order {
         print!(rt, " {place}")?;
@@ -46,7 +46,10 @@ fn show_row<O: DistanceOracle>(
     Ok(())
 }
 
-pub fn show_table<O: DistanceOracle>(rt: &LibcRuntime, oracle: &mut O) -> Result<(), AnyError> {
+pub(crate) fn show_table<O: DistanceOracle>(
+    rt: &LibcRuntime,
+    oracle: &mut O,
+) -> Result<(), AnyError> {
     for from in 0..oracle.places() {
         show_row(rt, oracle, from)?;
     }
@@ -54,7 +57,7 @@ pub fn show_table<O: DistanceOracle>(rt: &LibcRuntime, oracle: &mut O) -> Result
 }
 
 // The ducts by which one goes from one place to another.
-pub fn show_walk<O: DistanceOracle>(
+pub(crate) fn show_walk<O: DistanceOracle>(
     rt: &LibcRuntime,
     oracle: &mut O,
     from: u32,

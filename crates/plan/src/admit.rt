@@ -33,7 +33,7 @@ fn outside_all(groups: &[Group], n: u32) -> Option<u32>
 }
 
 // Whether a plan over n places can be made: the first check that fails, if any.
-pub fn admit(n: u32, groups: &[Group], room: usize) -> Result<(), PlanFault>
+pub(crate) fn admit(n: u32, groups: &[Group], room: usize) -> Result<(), PlanFault>
     ensures { λ r. ⌜ ByOk r (λ _. Admitted n (lists (now (groups .entry))) room) (λ e. Refused n (lists (now (groups .entry))) room e) ⌝ }
 {
     if groups.len() == 0 || groups.len() > 64 {

@@ -11,7 +11,7 @@ use oracle::traits::GroupOracle;
 use ways::near::Near;
 
 // The place in focus that is nearest to v.
-pub fn nearest_to<O: GroupOracle>(o: &mut O, v: u32) -> Option<Near>
+pub(crate) fn nearest_to<O: GroupOracle>(o: &mut O, v: u32) -> Option<Near>
     requires { ⌜ v < O·DistanceOracle .meaning (now o) .count ⌝ }
     ensures value { λ r. ⌜ Nearest (O·DistanceOracle .meaning (now (o .entry)) .count) (O·GroupOracle .focused (now (o .entry))) (far (O·DistanceOracle .meaning (now (o .entry))) v) r ⌝ }
     ensures same { λ _. ⌜ O·DistanceOracle .meaning (now (o .exit)) ≡ O·DistanceOracle .meaning (now (o .entry)) ⌝ }
@@ -24,7 +24,7 @@ pub fn nearest_to<O: GroupOracle>(o: &mut O, v: u32) -> Option<Near>
 }
 
 // Whether the place is in focus.
-pub fn in_focus<O: GroupOracle>(o: &mut O, v: u32) -> bool
+pub(crate) fn in_focus<O: GroupOracle>(o: &mut O, v: u32) -> bool
     requires { ⌜ v < O·DistanceOracle .meaning (now o) .count ⌝ }
     ensures value { λ r. ⌜ r ≡ O·GroupOracle .focused (now (o .entry)) v ⌝ }
     ensures same { λ _. ⌜ O·DistanceOracle .meaning (now (o .exit)) ≡ O·DistanceOracle .meaning (now (o .entry)) ⌝ }
@@ -37,7 +37,7 @@ pub fn in_focus<O: GroupOracle>(o: &mut O, v: u32) -> bool
 }
 
 // Adds the place to the focus.
-pub fn bring<O: GroupOracle>(o: &mut O, v: u32)
+pub(crate) fn bring<O: GroupOracle>(o: &mut O, v: u32)
     requires { ⌜ v < O·DistanceOracle .meaning (now o) .count ⌝ }
     ensures focus { λ _. ⌜ O·GroupOracle .focused (now (o .exit)) ≡ with-place v (O·GroupOracle .focused (now (o .entry))) ⌝ }
     ensures same { λ _. ⌜ O·DistanceOracle .meaning (now (o .exit)) ≡ O·DistanceOracle .meaning (now (o .entry)) ⌝ }
@@ -53,7 +53,7 @@ pub struct Leg {
 }
 
 // The hop that the way rule names from a place towards another.
-pub fn onward<O: GroupOracle>(o: &mut O, at: u32, to: u32) -> Leg
+pub(crate) fn onward<O: GroupOracle>(o: &mut O, at: u32, to: u32) -> Leg
     requires from_within { ⌜ at < O·DistanceOracle .meaning (now o) .count ⌝ }
     requires to_within { ⌜ to < O·DistanceOracle .meaning (now o) .count ⌝ }
     requires on_way { ⌜ step-of (O·DistanceOracle .meaning (now o)) at to ≡ NextStep (O·DistanceOracle .meaning (now o) .rule at to .to) (O·DistanceOracle .meaning (now o) .rule at to .length) ⌝ }

@@ -44,7 +44,11 @@ fn cheaper(first: Option<Start>, other: Option<Start>) -> Option<Start>
 }
 
 // The place of the first group whose distances to the others are together the least, or none where no place has a way to all of them.
-pub fn least_start<O: GroupOracle>(o: &mut O, first: &[u32], others: &[Group]) -> Option<Start>
+pub(crate) fn least_start<O: GroupOracle>(
+    o: &mut O,
+    first: &[u32],
+    others: &[Group],
+) -> Option<Start>
     requires within { ⌜ AllBelow (O·DistanceOracle .meaning (now o) .count) (now first) ⌝ }
     requires inside { ⌜ GroupsBelow (O·DistanceOracle .meaning (now o) .count) (lists (now others)) ⌝ }
     requires few { ⌜ length (now others) ≤ 64 ⌝ }
@@ -60,7 +64,7 @@ pub fn least_start<O: GroupOracle>(o: &mut O, first: &[u32], others: &[Group]) -
 }
 
 // Fills the list with x and the nearest place to it of each other group.
-pub fn gather<O: GroupOracle>(o: &mut O, x: u32, others: &[Group], chosen: &mut [u32])
+pub(crate) fn gather<O: GroupOracle>(o: &mut O, x: u32, others: &[Group], chosen: &mut [u32])
     requires within { ⌜ x < O·DistanceOracle .meaning (now o) .count ⌝ }
     requires inside { ⌜ GroupsBelow (O·DistanceOracle .meaning (now o) .count) (lists (now others)) ⌝ }
     requires reached { ⌜ ((w : ℕ) × (cost (far (O·DistanceOracle .meaning (now o))) x (lists (now others)) ≡ Some w)) ⌝ }

@@ -34,7 +34,7 @@ fn walk_length(branch: Branch, meet: u32) -> u32
 
 // Grows the trunk from a place: while a chosen place is off it, the nearest one walks to it by the way rule, and the walk ends with the first place already on the trunk.
 // The focus is on the trunk's places. Its ducts fill the beginning of the memory, as far as that goes, in the order in which they were laid.
-pub fn grow<O: GroupOracle>(o: &mut O, start: u32, chosen: &[u32], rows: &mut [Row]) -> Trunk
+pub(crate) fn grow<O: GroupOracle>(o: &mut O, start: u32, chosen: &[u32], rows: &mut [Row]) -> Trunk
     requires within { ⌜ start < O·DistanceOracle .meaning (now o) .count ⌝ }
     requires reached { ⌜ Reached (O·DistanceOracle .meaning (now o)) start (now chosen) ⌝ }
     ensures trunk { λ t. ⌜ Laid (O·DistanceOracle .meaning (now (o .entry))) start (now (chosen .entry)) (now (rows .entry)) (now (rows .exit)) t ⌝ }

@@ -35,7 +35,7 @@ fn measure<O: GroupOracle>(o: &mut O, start: u32, chosen: &[u32]) -> Trunk
 }
 
 // Grows a trunk from each chosen place, in their order, and tells the lightest, the first grown among equals.
-pub fn lightest<O: GroupOracle>(o: &mut O, chosen: &[u32]) -> Trunk
+pub(crate) fn lightest<O: GroupOracle>(o: &mut O, chosen: &[u32]) -> Trunk
     requires some { ⌜ 0 < length (now chosen) ⌝ }
     requires reached { ⌜ Reached (O·DistanceOracle .meaning (now o)) (getD (now chosen) 0 0) (now chosen) ⌝ }
     ensures trunk { λ t. ⌜ TellsLightest (O·DistanceOracle .meaning (now (o .entry))) (now (chosen .entry)) (length (now (chosen .entry))) t ⌝ }

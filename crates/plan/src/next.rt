@@ -47,7 +47,7 @@ fn sooner(first: Option<Branch>, other: Option<Branch>) -> Option<Branch>
 }
 
 // The shortest branch from a chosen place that is off the trunk, or none where all are on it.
-pub fn next_branch<O: GroupOracle>(o: &mut O, chosen: &[u32]) -> Option<Branch>
+pub(crate) fn next_branch<O: GroupOracle>(o: &mut O, chosen: &[u32]) -> Option<Branch>
     requires { ⌜ Joinable (O·DistanceOracle .meaning (now o)) (O·GroupOracle .focused (now o)) (now chosen) ⌝ }
     ensures value { λ r. ⌜ NextOf (O·DistanceOracle .meaning (now (o .entry))) (O·GroupOracle .focused (now (o .entry))) (now (chosen .entry)) r ⌝ }
     ensures same { λ _. ⌜ O·DistanceOracle .meaning (now (o .exit)) ≡ O·DistanceOracle .meaning (now (o .entry)) ⌝ }

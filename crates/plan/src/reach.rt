@@ -15,7 +15,7 @@ use oracle::traits::GroupOracle;
 use ways::near::Near;
 
 // The places of a group.
-pub fn members_of(g: &Group) -> &[u32]
+pub(crate) fn members_of(g: &Group) -> &[u32]
     ensures { λ r. ⌜ now r ≡ members (now (g .entry)) ⌝ }
 {
     &g.places[0..g.count]
@@ -34,7 +34,7 @@ fn load<O: GroupOracle>(o: &mut O, places: &[u32])
 }
 
 // The nearest of the places to v.
-pub fn nearest_of<O: GroupOracle>(o: &mut O, v: u32, places: &[u32]) -> Option<Near>
+pub(crate) fn nearest_of<O: GroupOracle>(o: &mut O, v: u32, places: &[u32]) -> Option<Near>
     requires within { ⌜ v < O·DistanceOracle .meaning (now o) .count ⌝ }
     requires inside { ⌜ AllBelow (O·DistanceOracle .meaning (now o) .count) (now places) ⌝ }
     ensures value { λ r. ⌜ Nearest (O·DistanceOracle .meaning (now (o .entry)) .count) (focus-on (now (places .entry))) (far (O·DistanceOracle .meaning (now (o .entry))) v) r ⌝ }
@@ -45,7 +45,7 @@ pub fn nearest_of<O: GroupOracle>(o: &mut O, v: u32, places: &[u32]) -> Option<N
 }
 
 // The sum of the distances from v to the groups, or none where it has no way to one of them.
-pub fn cost_of<O: GroupOracle>(o: &mut O, v: u32, groups: &[Group]) -> Option<u64>
+pub(crate) fn cost_of<O: GroupOracle>(o: &mut O, v: u32, groups: &[Group]) -> Option<u64>
     requires within { ⌜ v < O·DistanceOracle .meaning (now o) .count ⌝ }
     requires inside { ⌜ GroupsBelow (O·DistanceOracle .meaning (now o) .count) (lists (now groups)) ⌝ }
     requires few { ⌜ length (now groups) ≤ 64 ⌝ }
