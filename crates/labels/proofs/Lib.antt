@@ -1,0 +1,10 @@
+pub mod Counts
+pub mod Fills
+pub mod Layouts
+pub mod Marks
+pub mod Orders
+pub mod Pruning
+pub mod Sweeps
+pub mod Tables
+pub mod Verdicts
+pub mod Visits

@@ -1,0 +1,10 @@
+mod Accepts
+mod Along
+mod Lists
+mod Moves
+mod Pages
+mod Returns
+mod Round
+mod Sizes
+mod Taken
+mod Told
