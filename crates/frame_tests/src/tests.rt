@@ -1,8 +1,13 @@
 // What a frame takes and refuses, and the neighbours of a place.
+use fault::layer::Layer;
+use fault::layer::LayerDebug;
+use fault::layer::LayerPartialEq;
+use fault::refusal::Refusal;
 use frame::fault::FrameFault;
 use frame::fault::FrameFaultDebug;
 use frame::fault::FrameFaultPartialEq;
 use frame::frame::OpenFrame;
+use frame::refusals::FrameRefusal;
 use std::test::*;
 use ways::row::Row;
 
@@ -77,4 +82,19 @@ fn neighbours(rt: LibcRuntime) -> Result<(), Fail> {
     let near = closed.neighbours(3);
     check(near.len() == 3)?;
     check_eq((near[0].to, near[1].to, near[2].to), (0, 2, 4))
+}
+
+// The number and the spot of a fault.
+fn told(fault: FrameFault) -> (u32, u64) {
+    (fault.number(), fault.spot())
+}
+
+#[test]
+fn numbers() -> Result<(), Fail> {
+    check_eq(told(FrameFault::Places), (13, 1))?;
+    check_eq(told(FrameFault::Length), (13, 3))?;
+    check_eq(told(FrameFault::NoRoom { needed: 7 }), (31, 7))?;
+    check_eq(told(FrameFault::NoPlace { place: 9 }), (15, 9))?;
+    check_eq(told(FrameFault::Ends { first: 4 }), (14, 4))?;
+    check_eq(FrameFault::Places.layer(), Layer::Frame)
 }
