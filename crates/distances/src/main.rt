@@ -1,4 +1,6 @@
 // The bench's program: a frame, its ranking, its distances, and what a jumper changes. With frame and oracle alone.
+#![tactic(auto)]
+
 mod example;
 mod show;
 

@@ -1,4 +1,6 @@
 // Frames: ducts added one by one, then closed, with the neighbours of each place.
+#![tactic(auto)]
+
 pub mod arc;
 pub mod closed;
 pub mod duct;

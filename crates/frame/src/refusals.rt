@@ -1,10 +1,10 @@
 // The number, layer and spot of a frame's fault.
-ghost use Rattle.fault.specs.declared.layer.Layer.TheVariants.{Frame as FrameLayer};
+ghost use Rattle.faults.specs.declared.layer.Layer.TheVariants.{Frame as FrameLayer};
 ghost use Rattle.frame.specs.Faults.{number_of, spot_of};
 
 use crate::fault::FrameFault;
-use fault::layer::Layer;
-use fault::refusal::Refusal;
+use faults::layer::Layer;
+use faults::refusal::Refusal;
 
 impl Refusal for FrameFault {
     ghost numbered = { number_of };

@@ -1,6 +1,6 @@
 // What a frame takes and refuses, and the neighbours of a place.
-use fault::layer::Layer;
-use fault::refusal::Refusal;
+use faults::layer::Layer;
+use faults::refusal::Refusal;
 use frame::fault::FrameFault;
 use frame::frame::OpenFrame;
 use std::test::Fail;

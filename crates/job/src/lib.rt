@@ -1,4 +1,6 @@
 // The job: which fittings stand, how they are added and dropped, and what that means over every day of calls.
+#![tactic(auto)]
+
 pub mod call;
 mod changes;
 pub mod fault;

@@ -1,10 +1,10 @@
 // The number, layer and spot of a job's fault.
-ghost use Rattle.fault.specs.declared.layer.Layer.TheVariants.{Job as JobLayer};
+ghost use Rattle.faults.specs.declared.layer.Layer.TheVariants.{Job as JobLayer};
 ghost use Rattle.job.specs.Faults.{number_of, spot_of};
 
 use crate::fault::JobFault;
-use fault::layer::Layer;
-use fault::refusal::Refusal;
+use faults::layer::Layer;
+use faults::refusal::Refusal;
 
 impl Refusal for JobFault {
     ghost numbered = { number_of };

@@ -1,8 +1,8 @@
 // Adds, drops and refusals on a job of five places.
 use crate::fault::JobFault;
 use crate::job::Job;
-use fault::layer::Layer;
-use fault::refusal::Refusal;
+use faults::layer::Layer;
+use faults::refusal::Refusal;
 use std::test::Fail;
 
 #[test]

@@ -1,4 +1,6 @@
 // The jumper: one more duct laid over any oracle.
+#![tactic(auto)]
+
 pub mod group;
 pub mod jumper;
 pub mod laws;

@@ -1,4 +1,6 @@
 // The table of labels: its memory, its order, and how it is built.
+#![tactic(auto)]
+
 pub mod build;
 pub mod fault;
 mod filling;

@@ -1,10 +1,10 @@
 // The number, layer and spot of a fault of labels.
-ghost use Rattle.fault.specs.declared.layer.Layer.TheVariants.{Labels as LabelsLayer};
+ghost use Rattle.faults.specs.declared.layer.Layer.TheVariants.{Labels as LabelsLayer};
 ghost use Rattle.labels.specs.Faults.{number_of, spot_of};
 
 use crate::fault::LabelsFault;
-use fault::layer::Layer;
-use fault::refusal::Refusal;
+use faults::layer::Layer;
+use faults::refusal::Refusal;
 
 impl Refusal for LabelsFault {
     ghost numbered = { number_of };

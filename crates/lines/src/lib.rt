@@ -1,4 +1,6 @@
 // The lines of a ticket: bytes to lines, lines to numbers, and back.
+#![tactic(auto)]
+
 pub mod cut;
 pub mod fault;
 pub mod laws;

@@ -1,10 +1,10 @@
 // The number, layer and spot of a reader's fault.
-ghost use Rattle.fault.specs.declared.layer.Layer.TheVariants.{Reader as ReaderLayer};
+ghost use Rattle.faults.specs.declared.layer.Layer.TheVariants.{Reader as ReaderLayer};
 ghost use Rattle.lines.specs.Faults.{number_of, spot_of};
 
 use crate::fault::ReaderFault;
-use fault::layer::Layer;
-use fault::refusal::Refusal;
+use faults::layer::Layer;
+use faults::refusal::Refusal;
 
 impl Refusal for ReaderFault {
     ghost numbered = { number_of };

@@ -1,4 +1,6 @@
 // The measured cases: each function's contract is a theorem of the definitions.
+#![tactic(auto)]
+
 ghost use Rattle.measured.specs.Table.{Far03, RankingOrder, JumperDistances};
 
 // On the worked example 0 to 3 is 900, not 1,000.

@@ -1,10 +1,10 @@
 // The number, layer and spot of an oracle's fault.
-ghost use Rattle.fault.specs.declared.layer.Layer.TheVariants.{Oracle as OracleLayer};
+ghost use Rattle.faults.specs.declared.layer.Layer.TheVariants.{Oracle as OracleLayer};
 ghost use Rattle.oracle.specs.Faults.{number_of, spot_of};
 
 use crate::fault::OracleFault;
-use fault::layer::Layer;
-use fault::refusal::Refusal;
+use faults::layer::Layer;
+use faults::refusal::Refusal;
 
 impl Refusal for OracleFault {
     ghost numbered = { number_of };

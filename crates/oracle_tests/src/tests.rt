@@ -1,6 +1,6 @@
 // Answers and refusals on small frames.
-use fault::layer::Layer;
-use fault::refusal::Refusal;
+use faults::layer::Layer;
+use faults::refusal::Refusal;
 use frame::frame::{ClosedFrame, OpenFrame};
 use heap::queue::Heap;
 use heap::search::SearchEntry;

@@ -1,4 +1,6 @@
 // Trunks over groups of places, laid over any group oracle.
+#![tactic(auto)]
+
 mod admit;
 mod ask;
 mod branch;

@@ -1,4 +1,6 @@
 // The ranking of a closed frame: its places by their number of ducts.
+#![tactic(auto)]
+
 mod drain;
 mod fill;
 pub mod rank;

@@ -1,4 +1,6 @@
 // The search for distances over a closed frame, and the oracle that asks it.
+#![tactic(auto)]
+
 pub mod asking;
 mod dijkstra;
 pub mod making;

@@ -1,7 +1,7 @@
 -- The number, the layer, the spot and the line of each fault of a ticket. Assumes nothing.
 use Rattle.std.specs.Prelude.{ℕ}
-use Rattle.fault.specs.declared.layer.Layer.{Layer}
-use Rattle.fault.specs.declared.layer.Layer.TheVariants.{Reader as ReaderLayer, Frame as FrameLayer, Job as JobLayer}
+use Rattle.faults.specs.declared.layer.Layer.{Layer}
+use Rattle.faults.specs.declared.layer.Layer.TheVariants.{Reader as ReaderLayer, Frame as FrameLayer, Job as JobLayer}
 use Rattle.lines.specs.declared.fault.ReaderFault.TheVariants.{Form, Section, Limit}
 use Rattle.lines.specs.Faults as lines
 use Rattle.frame.specs.Faults as frame

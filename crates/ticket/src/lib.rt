@@ -1,4 +1,6 @@
 // Tickets: bytes into a frame and the fittings of a job, and back.
+#![tactic(auto)]
+
 mod checks;
 pub mod due;
 pub mod fault;

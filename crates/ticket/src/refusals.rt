@@ -3,8 +3,8 @@ ghost use Rattle.std.specs.Prelude.{◌≡◌};
 ghost use Rattle.ticket.specs.Faults.{number_of, layer_of, spot_of, line_of};
 
 use crate::fault::TicketFault;
-use fault::layer::Layer;
-use fault::refusal::Refusal;
+use faults::layer::Layer;
+use faults::refusal::Refusal;
 
 impl Refusal for TicketFault {
     ghost numbered = { number_of };

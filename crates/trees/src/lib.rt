@@ -1,4 +1,6 @@
 // Connected sets of places and ducts, trees, their growth by walks, and what the least sum of distances to groups is bounded by: each function's contract is a theorem.
+#![tactic(auto)]
+
 ghost use Rattle.trees.specs.Laws.{WayInWeight, DistanceInWeight, TreeFew, TreeLight, TreeStarts, TreeGrows, NearestGap, CostBounded, LeastCostBounded};
 
 // A way that comes to no place twice is no longer than all the ducts together.

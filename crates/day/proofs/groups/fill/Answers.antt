@@ -8,8 +8,8 @@ use Rattle.plan.specs.Groups.{members, lists}
 use Rattle.day.proofs.Joins.{lists_push}
 use Rattle.day.proofs.groups.fill.Goals as goal
 
-pub group-of-requires : goal.group-of-requires
-group-of-requires c =
+pub group_of-requires : goal.group_of-requires
+group_of-requires c =
     subst (λ (l : List ℕ). length l ≤ 16) (sym c.places.ensures) (All-get_or (λ x. length (places_of x) ≤ 16) c.args.fittings.now c.loop-i.i no_fitting c.loop-i-test.true c.requires.few)
 
 pub loop-i-preserved : goal.loop-i-preserved
@@ -17,11 +17,11 @@ loop-i-preserved c =
     let xs = c.args.fittings.now in
     let gs = c.loop-i.groups in
     let i = c.loop-i.i in
-    let g = c.group-of.result in
+    let g = c.group_of.result in
     let h : i < length xs = c.loop-i-test.true in
     let k : i < length gs = omega (arith, c.requires.room, c.loop-i.invariant.1) in (
       ap lists (take_more_set gs i g k) ∙ lists_push (take i gs) g
-          ∙ (λ j. c.loop-i.invariant.0 j ++ (c.group-of.ensures ∙ c.places.ensures) j ∷ [])
+          ∙ (λ j. c.loop-i.invariant.0 j ++ (c.group_of.ensures ∙ c.places.ensures) j ∷ [])
           ∙ sym (ap (map places_of) (take_more xs i no_fitting h) ∙ map-append places_of (take i xs) (get_or xs i no_fitting ∷ [])),
       length-set gs i g ∙ c.loop-i.invariant.1,
     )

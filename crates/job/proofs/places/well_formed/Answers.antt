@@ -12,4 +12,4 @@ front (p ∷ ps) r some few e =
     e ∙ ap (rises p) rest ∙ ap (λ (t : Bool). t && rises p ps) (sym (le-leb (length ps) 15 small))
 
 pub returns-then-rest-le15 : goal.returns-then-rest-le15
-returns-then-rest-le15 c = front c.args.places.now c.rising-from.result (search rules) c.if-rest-le15.true c.rising-from.ensures
+returns-then-rest-le15 c = front c.args.places.now c.rising_from.result (search rules) c.if-rest-le15.true c.rising_from.ensures

@@ -10,16 +10,16 @@ returns g c =
     let on = g.met.O.DistanceOracle.kept_on in
     let means = g.met.O.DistanceOracle.kept_meaning in
     let focuses = g.met.O.GroupOracle.kept_focus in
-    let said = c.in-ok-direct.ensures in
+    let said = c.in_ok-direct.ensures in
     let k1 : kept o c.nearest.new.self = said.kept in
-    let k2 : kept o c.known-to-a.new.o = on _ _ _ k1 c.known-to-a.ensures.kept in
-    let k3 : kept o c.known-to-b.new.o = on _ _ _ k2 c.known-to-b.ensures.kept in
-    let k4 : kept o c.nearest-known-from-a.new.o = on _ _ _ k3 c.nearest-known-from-a.ensures.kept in
+    let k2 : kept o c.known-to_a.new.o = on _ _ _ k1 c.known-to_a.ensures.kept in
+    let k3 : kept o c.known-to_b.new.o = on _ _ _ k2 c.known-to_b.ensures.kept in
+    let k4 : kept o c.nearest_known-from_a.new.o = on _ _ _ k3 c.nearest_known-from_a.ensures.kept in
     let e1 = means _ _ k1 in
     let e2 = means _ _ k2 in
-    let r = finds_at (meaning o) (meaning c.known-to-b.new.o) (focused o) (focused c.known-to-b.new.o) c.args.a c.nearest-known-from-a.result (means _ _ k3) (focuses _ _ k3) c.nearest-known-from-a.ensures.value in
-    let q = finds_at (meaning o) (meaning c.nearest-known-from-a.new.o) (focused o) (focused c.nearest-known-from-a.new.o) c.args.b c.nearest-known-from-b.result (means _ _ k4) (focuses _ _ k4) c.nearest-known-from-b.ensures.value in
+    let r = finds_at (meaning o) (meaning c.known-to_b.new.o) (focused o) (focused c.known-to_b.new.o) c.args.a c.nearest_known-from_a.result (means _ _ k3) (focuses _ _ k3) c.nearest_known-from_a.ensures.value in
+    let q = finds_at (meaning o) (meaning c.nearest_known-from_a.new.o) (focused o) (focused c.nearest_known-from_a.new.o) c.args.b c.nearest_known-from_b.result (means _ _ k4) (focuses _ _ k4) c.nearest_known-from_b.ensures.value in
     record {
-      value = (said.value.0, (c.in-ok-direct.direct, c.nearest-known-from-b.result, c.nearest-known-from-a.result, said.value.1, q, r, cc));
-      kept = on _ _ _ k4 c.nearest-known-from-b.ensures.kept;
+      value = (said.value.0, (c.in_ok-direct.direct, c.nearest_known-from_b.result, c.nearest_known-from_a.result, said.value.1, q, r, cc));
+      kept = on _ _ _ k4 c.nearest_known-from_b.ensures.kept;
     }

@@ -8,8 +8,8 @@ use Rattle.labels.proofs.filling.fill.Goals as goal
 pub loop-rank-init : goal.loop-rank-init
 loop-rank-init c = (refl, filling_none (places_of c.args.frame.now) (rows_of c.args.frame.now) c.args.order.now c.args.width c.args.counts.now c.args.entries.now c.args.records.now c.requires.rows c.requires.counts c.requires.zeroed c.requires.upto)
 
-pub search-from-requires : goal.search-from-requires
-search-from-requires c = record {
+pub search_from-requires : goal.search_from-requires
+search_from-requires c = record {
   width = c.requires.width;
   counts = c.loop-rank.auto.counts ∙ c.requires.counts;
   records = c.loop-rank.auto.records ∙ c.requires.records;
@@ -22,12 +22,12 @@ search-from-requires c = record {
 
 pub loop-rank-preserved : goal.loop-rank-preserved
 loop-rank-preserved c =
-    (c.search-from.ensures.room ∙ c.loop-rank.invariant.0, filling_more (places_of c.args.frame.now) (rows_of c.args.frame.now) c.args.order.now c.args.width c.loop-rank.rank c.search-from.new.counts c.search-from.new.entries c.search-from.new.records c.in-ok-search-from.ensures.searched)
+    (c.search_from.ensures.room ∙ c.loop-rank.invariant.0, filling_more (places_of c.args.frame.now) (rows_of c.args.frame.now) c.args.order.now c.args.width c.loop-rank.rank c.search_from.new.counts c.search_from.new.entries c.search_from.new.records c.in_ok-search_from.ensures.searched)
 
-pub returns-in-err-search-from : goal.returns-in-err-search-from
-returns-in-err-search-from c =
-    let p = err_from_is_err_and c.from-residual.result c.from-residual.ensures.1 in
-    let l = some_longer (places_of c.args.frame.now) (rows_of c.args.frame.now) c.args.order.now c.args.width c.loop-rank.rank c.loop-rank.counts c.loop-rank.entries c.loop-rank.records c.in-err-search-from.field-0.0 c.loop-rank.invariant.1 c.in-err-search-from.ensures.searched in
+pub returns-in_err-search_from : goal.returns-in_err-search_from
+returns-in_err-search_from c =
+    let p = err_from_is_err_and c.from_residual.result c.from_residual.ensures.1 in
+    let l = some_longer (places_of c.args.frame.now) (rows_of c.args.frame.now) c.args.order.now c.args.width c.loop-rank.rank c.loop-rank.counts c.loop-rank.entries c.loop-rank.records c.in_err-search_from.field-0.0 c.loop-rank.invariant.1 c.in_err-search_from.ensures.searched in
     rw p.1 (p.2 ∙ l.0, l.1)
 
 pub returns : goal.returns

@@ -16,8 +16,8 @@ use Rattle.labels.proofs.Marks.{at_all}
 use Rattle.labels.proofs.Sweeps.{Sweep, ranks_at, sweep_begins, in_place, sweep_skips, visiting, is_short, room_now, ranks_now, sweep_less, sweep_goes_on, advanced}
 use Rattle.labels.proofs.round.search_from.Goals as goal
 
-pub row-of-row-requires : goal.row-of-row-requires
-row-of-row-requires c =
+pub row_of-row-requires : goal.row_of-row-requires
+row_of-row-requires c =
     let n = places_of c.args.frame.now in
     record {
       few = (omega (arith, c.requires.counts, closed_few c.args.frame.now), c.requires.width);
@@ -32,8 +32,8 @@ lay-requires c =
     let is : s < n = place_in n c.args.order.now c.requires.ready.ordered c.args.rank c.requires.ready.inside in
     let size : length c.args.records.now ≡ n = c.requires.records in
     record {
-      rising = subst Rising (sym c.row-of-row.ensures) (c.requires.ready.exact.rising s is);
-      ranks = ranks_at (length c.args.records.now) c.row-of-row.result.now (λ e i. omega (arith, size, c.requires.ready.inside, (c.requires.ready.exact.only s e is (subst (In e) c.row-of-row.ensures i)).0));
+      rising = subst Rising (sym c.row_of-row.ensures) (c.requires.ready.exact.rising s is);
+      ranks = ranks_at (length c.args.records.now) c.row_of-row.result.now (λ e i. omega (arith, size, c.requires.ready.inside, (c.requires.ready.exact.only s e is (subst (In e) c.row_of-row.ensures i)).0));
       older = (subst (λ (m : ℕ). Upto m c.args.records.now) (omega arith) c.requires.upto, omega arith);
     }
 
@@ -49,7 +49,7 @@ pub loop-popped-init : goal.loop-popped-init
 loop-popped-init c =
     let n = places_of c.args.frame.now in
     let ds = rows_of c.args.frame.now in
-    let row = c.row-of-row.ensures in
+    let row = c.row_of-row.ensures in
     let b = c.begin.ensures in (
       b.heaped,
       refl,
@@ -58,8 +58,8 @@ loop-popped-init c =
           (subst (λ (ys : List Entry). Laid (c.args.rank + 1) c.lay.new.records ys (length ys)) row c.lay.ensures.laid) c.requires.fits c.requires.behind b.bag b.one (omega (arith, b.room, c.requires.room))),
     )
 
-pub slice-copy-out·is-settled : goal.slice-copy-out·is-settled
-slice-copy-out·is-settled c =
+pub slice-copy-out·is_settled : goal.slice-copy-out·is_settled
+slice-copy-out·is_settled c =
     let n = places_of c.args.frame.now in
     let ds = rows_of c.args.frame.now in
     let row : ℕ → List Entry = row_in c.args.width c.args.counts.now c.args.entries.now in
@@ -74,7 +74,7 @@ visit-requires c =
     let row : ℕ → List Entry = row_in c.args.width c.args.counts.now c.args.entries.now in
     let size : length c.loop-popped.records ≡ n = c.loop-popped.auto.records ∙ c.begin.auto.records ∙ c.lay.auto.records ∙ c.requires.records in
     let told = c.in-Some.ensures in
-    let waiting = sym c.if-not-is-settled.ensures in
+    let waiting = sym c.if-not-is_settled.ensures in
     let arcs = c.neighbours-arcs.result.now in
     let nb = c.neighbours-arcs.ensures in
     let eq : length c.loop-popped.counts ≡ n = c.loop-popped.auto.counts ∙ c.requires.counts in
@@ -101,13 +101,13 @@ loop-popped-smaller-in-Continue· c =
     let row : ℕ → List Entry = row_in c.args.width c.args.counts.now c.args.entries.now in
     let size : length c.loop-popped.records ≡ n = c.loop-popped.auto.records ∙ c.begin.auto.records ∙ c.lay.auto.records ∙ c.requires.records in
     let told = c.in-Some.ensures in
-    let waiting = sym c.if-not-is-settled.ensures in
+    let waiting = sym c.if-not-is_settled.ensures in
     let arcs = c.neighbours-arcs.result.now in
     let nb = c.neighbours-arcs.ensures in
     let eq : length c.loop-popped.counts ≡ n = c.loop-popped.auto.counts ∙ c.requires.counts in
     let v : Visited n ds c.args.order.now c.args.width c.args.rank row c.in-Some.popped c.loop-popped.records c.visit.new.counts c.visit.new.entries c.visit.new.records (entries c.visit.new.queue) (Ok tt) =
     subst (λ (m : ℕ). Visited m ds c.args.order.now c.args.width c.args.rank row c.in-Some.popped c.loop-popped.records c.visit.new.counts c.visit.new.entries c.visit.new.records (entries c.visit.new.queue) (Ok tt)) eq
-    (c.in-ok-visit.ensures.visited ds c.args.order.now row (entries c.loop-popped.queue) refl
+    (c.in_ok-visit.ensures.visited ds c.args.order.now row (entries c.loop-popped.queue) refl
     (subst (λ (m : ℕ). Visiting m ds c.args.order.now c.args.width c.args.rank row c.in-Some.popped arcs c.loop-popped.counts c.loop-popped.entries c.loop-popped.records (entries c.loop-popped.queue) (entries c.pop.new.self)) (sym eq) (visiting n ds c.args.order.now c.args.width c.args.rank row (capacity c.begin.new.queue) c.loop-popped.counts c.loop-popped.entries c.loop-popped.records (entries c.loop-popped.queue) (entries c.pop.new.self) c.in-Some.popped c.loop-popped.invariant.2 c.requires.ready (closed_few c.args.frame.now) size told.bag.shuffled (told.bag.first c.loop-popped.invariant.0) told.bag.shorter waiting arcs nb))) in
     sweep_less n ds c.args.order.now c.args.width c.args.rank row (capacity c.begin.new.queue) c.loop-popped.counts c.loop-popped.entries c.loop-popped.records (entries c.loop-popped.queue) (entries c.pop.new.self) c.in-Some.popped c.loop-popped.invariant.2 c.requires.ready (closed_few c.args.frame.now) size told.bag.shuffled (told.bag.first c.loop-popped.invariant.0) told.bag.shorter waiting arcs nb c.visit.new.counts c.visit.new.entries c.visit.new.records (entries c.visit.new.queue) v.0 v.1 v.2 c.visit.ensures.longer
 
@@ -118,35 +118,35 @@ loop-popped-preserved-in-Continue· c =
     let row : ℕ → List Entry = row_in c.args.width c.args.counts.now c.args.entries.now in
     let size : length c.loop-popped.records ≡ n = c.loop-popped.auto.records ∙ c.begin.auto.records ∙ c.lay.auto.records ∙ c.requires.records in
     let told = c.in-Some.ensures in
-    let waiting = sym c.if-not-is-settled.ensures in
+    let waiting = sym c.if-not-is_settled.ensures in
     let arcs = c.neighbours-arcs.result.now in
     let nb = c.neighbours-arcs.ensures in
     let eq : length c.loop-popped.counts ≡ n = c.loop-popped.auto.counts ∙ c.requires.counts in
     let v : Visited n ds c.args.order.now c.args.width c.args.rank row c.in-Some.popped c.loop-popped.records c.visit.new.counts c.visit.new.entries c.visit.new.records (entries c.visit.new.queue) (Ok tt) =
     subst (λ (m : ℕ). Visited m ds c.args.order.now c.args.width c.args.rank row c.in-Some.popped c.loop-popped.records c.visit.new.counts c.visit.new.entries c.visit.new.records (entries c.visit.new.queue) (Ok tt)) eq
-    (c.in-ok-visit.ensures.visited ds c.args.order.now row (entries c.loop-popped.queue) refl
+    (c.in_ok-visit.ensures.visited ds c.args.order.now row (entries c.loop-popped.queue) refl
     (subst (λ (m : ℕ). Visiting m ds c.args.order.now c.args.width c.args.rank row c.in-Some.popped arcs c.loop-popped.counts c.loop-popped.entries c.loop-popped.records (entries c.loop-popped.queue) (entries c.pop.new.self)) (sym eq) (visiting n ds c.args.order.now c.args.width c.args.rank row (capacity c.begin.new.queue) c.loop-popped.counts c.loop-popped.entries c.loop-popped.records (entries c.loop-popped.queue) (entries c.pop.new.self) c.in-Some.popped c.loop-popped.invariant.2 c.requires.ready (closed_few c.args.frame.now) size told.bag.shuffled (told.bag.first c.loop-popped.invariant.0) told.bag.shorter waiting arcs nb))) in (
       c.visit.ensures.heaped,
       c.visit.ensures.room ∙ told.room ∙ c.loop-popped.invariant.1,
       sweep_goes_on n ds c.args.order.now c.args.width c.args.rank row (capacity c.begin.new.queue) c.loop-popped.counts c.loop-popped.entries c.loop-popped.records (entries c.loop-popped.queue) (entries c.pop.new.self) c.in-Some.popped c.loop-popped.invariant.2 c.requires.ready (closed_few c.args.frame.now) size told.bag.shuffled (told.bag.first c.loop-popped.invariant.0) told.bag.shorter waiting arcs nb c.visit.new.counts c.visit.new.entries c.visit.new.records (entries c.visit.new.queue) v.0 v.1 v.2 c.visit.ensures.longer,
     )
 
-pub returns-in-err-visit : goal.returns-in-err-visit
-returns-in-err-visit c =
+pub returns-in_err-visit : goal.returns-in_err-visit
+returns-in_err-visit c =
     let n = places_of c.args.frame.now in
     let ds = rows_of c.args.frame.now in
     let row : ℕ → List Entry = row_in c.args.width c.args.counts.now c.args.entries.now in
     let size : length c.loop-popped.records ≡ n = c.loop-popped.auto.records ∙ c.begin.auto.records ∙ c.lay.auto.records ∙ c.requires.records in
     let told = c.in-Some.ensures in
-    let waiting = sym c.if-not-is-settled.ensures in
+    let waiting = sym c.if-not-is_settled.ensures in
     let arcs = c.neighbours-arcs.result.now in
     let nb = c.neighbours-arcs.ensures in
     let eq : length c.loop-popped.counts ≡ n = c.loop-popped.auto.counts ∙ c.requires.counts in
-    let v : Visited n ds c.args.order.now c.args.width c.args.rank row c.in-Some.popped c.loop-popped.records c.visit.new.counts c.visit.new.entries c.visit.new.records (entries c.visit.new.queue) (Err c.in-err-visit.field-0.0) =
-    subst (λ (m : ℕ). Visited m ds c.args.order.now c.args.width c.args.rank row c.in-Some.popped c.loop-popped.records c.visit.new.counts c.visit.new.entries c.visit.new.records (entries c.visit.new.queue) (Err c.in-err-visit.field-0.0)) eq
-    (c.in-err-visit.ensures.visited ds c.args.order.now row (entries c.loop-popped.queue) refl
+    let v : Visited n ds c.args.order.now c.args.width c.args.rank row c.in-Some.popped c.loop-popped.records c.visit.new.counts c.visit.new.entries c.visit.new.records (entries c.visit.new.queue) (Err c.in_err-visit.field-0.0) =
+    subst (λ (m : ℕ). Visited m ds c.args.order.now c.args.width c.args.rank row c.in-Some.popped c.loop-popped.records c.visit.new.counts c.visit.new.entries c.visit.new.records (entries c.visit.new.queue) (Err c.in_err-visit.field-0.0)) eq
+    (c.in_err-visit.ensures.visited ds c.args.order.now row (entries c.loop-popped.queue) refl
     (subst (λ (m : ℕ). Visiting m ds c.args.order.now c.args.width c.args.rank row c.in-Some.popped arcs c.loop-popped.counts c.loop-popped.entries c.loop-popped.records (entries c.loop-popped.queue) (entries c.pop.new.self)) (sym eq) (visiting n ds c.args.order.now c.args.width c.args.rank row (capacity c.begin.new.queue) c.loop-popped.counts c.loop-popped.entries c.loop-popped.records (entries c.loop-popped.queue) (entries c.pop.new.self) c.in-Some.popped c.loop-popped.invariant.2 c.requires.ready (closed_few c.args.frame.now) size told.bag.shuffled (told.bag.first c.loop-popped.invariant.0) told.bag.shorter waiting arcs nb))) in
-    let p = err_from_is_err_and c.from-residual.result c.from-residual.ensures.1 in
+    let p = err_from_is_err_and c.from_residual.result c.from_residual.ensures.1 in
     record {
       room = c.visit.ensures.room ∙ told.room ∙ c.loop-popped.invariant.1 ∙ c.begin.ensures.room;
       searched = rw p.1 (p.2 ∙ v.0, v.1);
@@ -161,12 +161,12 @@ loop-popped-preserved c =
     let told = c.in-Some.ensures in (
       told.heaped c.loop-popped.invariant.0,
       told.room ∙ c.loop-popped.invariant.1,
-      sweep_skips n ds c.args.order.now c.args.width c.args.rank row (capacity c.begin.new.queue) c.loop-popped.counts c.loop-popped.entries c.loop-popped.records (entries c.loop-popped.queue) (entries c.pop.new.self) c.in-Some.popped c.loop-popped.invariant.2 c.requires.ready (closed_few c.args.frame.now) size told.bag.shuffled (told.bag.first c.loop-popped.invariant.0) told.bag.shorter (sym c.if-not-is-settled.ensures),
+      sweep_skips n ds c.args.order.now c.args.width c.args.rank row (capacity c.begin.new.queue) c.loop-popped.counts c.loop-popped.entries c.loop-popped.records (entries c.loop-popped.queue) (entries c.pop.new.self) c.in-Some.popped c.loop-popped.invariant.2 c.requires.ready (closed_few c.args.frame.now) size told.bag.shuffled (told.bag.first c.loop-popped.invariant.0) told.bag.shorter (sym c.if-not-is_settled.ensures),
     )
 
 pub returns : goal.returns
 returns c =
-    let told = c.in-default.ensures in
+    let told = c.in_default.ensures in
     record {
       room = told.room ∙ c.loop-popped.invariant.1 ∙ c.begin.ensures.room;
       searched = advanced (places_of c.args.frame.now) (rows_of c.args.frame.now) c.args.order.now c.args.width c.args.rank (row_in c.args.width c.args.counts.now c.args.entries.now) (capacity c.begin.new.queue) c.loop-popped.counts c.loop-popped.entries c.loop-popped.records (entries c.loop-popped.queue) c.loop-popped.invariant.2 c.requires.ready told.bag.none;

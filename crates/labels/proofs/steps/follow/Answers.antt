@@ -15,8 +15,8 @@ loop-arc-init c = (
   λ ds tells s u nb at p. following_none ds tells c.args.round c.args.arcs.now s u c.args.distance c.args.records.now (entries c.args.queue.now) p,
 )
 
-pub overflow-add-distance : goal.overflow-add-distance
-overflow-add-distance c = omega (arith, c.requires.short, (c.requires.arcs c.loop-arc.arc-index c.loop-arc-test.true).1)
+pub overflow_add-distance : goal.overflow_add-distance
+overflow_add-distance c = omega (arith, c.requires.short, (c.requires.arcs c.loop-arc.arc-index c.loop-arc-test.true).1)
 
 pub relax-requires : goal.relax-requires
 relax-requires c = record {

@@ -3,8 +3,8 @@ use Rattle.labels.specs.Table.{count_of}
 use Rattle.labels.proofs.Tables.{inside, few_entries, cut}
 use Rattle.labels.proofs.table.row_of.Goals as goal
 
-pub slice-bounds-result-end : goal.slice-bounds-result-end
-slice-bounds-result-end c =
+pub slice_bounds-result-end : goal.slice_bounds-result-end
+slice_bounds-result-end c =
     let room : c.args.place * c.args.width + get_or c.args.counts.now c.args.place 0 ≤ length c.args.entries.now = omega (arith, c.requires.fits.rows, inside (length c.args.counts.now) c.args.width c.args.place (get_or c.args.counts.now c.args.place 0) c.requires.within (c.requires.fits.narrow c.args.place c.requires.within)) in
     search rules
 

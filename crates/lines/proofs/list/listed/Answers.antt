@@ -5,10 +5,10 @@ use Rattle.lines.specs.Said.{Lists}
 use Rattle.lines.proofs.Numbers.{start, along, none_behind, shorter, finished}
 use Rattle.lines.proofs.list.listed.Goals as goal
 
-pub returns-in-default : goal.returns-in-default
-returns-in-default c ns h =
+pub returns-in_default : goal.returns-in_default
+returns-in_default c ns h =
     let o = c.loop-rest.invariant.only ns h in
-    none_behind c.loop-rest.rest.now c.in-default.ensures o.0 (omega arith) o.2
+    none_behind c.loop-rest.rest.now c.in_default.ensures o.0 (omega arith) o.2
 
 pub loop-rest-smaller : goal.loop-rest-smaller
 loop-rest-smaller c = shorter c.loop-rest.rest.now c.in-Some.after.now c.in-Some.n c.in-Some.ensures

@@ -15,13 +15,13 @@ returns c ns v l e =
       counted = omega (arith, length_push ns v);
       few = omega (arith, length_push ns v);
       wide = elim c.if-count-lt17.branch [
-        | then-count-lt17 x ↦ let i = x.front-is in let y = length-set c.args.list.front c.args.list.count x.short-of.result in cc
+        | then-count-lt17 x ↦ let i = x.front-is in let y = length-set c.args.list.front c.args.list.count x.short_of.result in cc
         | else-count-lt17 x ↦ let i = x.front-is in cc
       ];
       front = elim c.if-count-lt17.branch [
         | then-count-lt17 x ↦
             let i = x.front-is in
-            let k : x.short-of.result ≡ capped v = omega (arith, x.short-of.ensures) in
+            let k : x.short_of.result ≡ capped v = omega (arith, x.short_of.ensures) in
             let y = store c.args.list.front ns v w (omega (arith, x.if-count-lt17.true)) f in
             cc
         | else-count-lt17 x ↦

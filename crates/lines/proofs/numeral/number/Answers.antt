@@ -11,5 +11,5 @@ returns-then-count-gt1 c = no_next_zero c.args.text.now c.digits-count.result c.
 pub returns : goal.returns
 returns c =
     let d = c.digits-count.ensures in
-    let s = c.split-at.ensures in
-    next c.args.text.now c.split-at.result.0.now c.split-at.result.1.now c.digits-count.result c.value.result c.if-count-eq0.false d.within (λ z. elim c.else-text-eq48.either [ inl w ↦ omega arith | inr w ↦ omega arith ]) d.front d.after s.front s.back c.value.ensures
+    let s = c.split_at.ensures in
+    next c.args.text.now c.split_at.result.0.now c.split_at.result.1.now c.digits-count.result c.value.result c.if-count-eq0.false d.within (λ z. elim c.else-text-eq48.either [ inl w ↦ omega arith | inr w ↦ omega arith ]) d.front d.after s.front s.back c.value.ensures

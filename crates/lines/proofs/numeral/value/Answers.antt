@@ -6,14 +6,14 @@ use Rattle.lines.specs.Text.{held}
 use Rattle.lines.proofs.Front.{held_step}
 use Rattle.lines.proofs.numeral.value.Goals as goal
 
-pub overflow-sub-b : goal.overflow-sub-b
-overflow-sub-b c = omega (arith, digit_at c.args.piece.now c.loop-b.b-index c.requires (omega arith))
+pub overflow_sub-b : goal.overflow_sub-b
+overflow_sub-b c = omega (arith, digit_at c.args.piece.now c.loop-b.b-index c.requires (omega arith))
 
 pub loop-b-preserved : goal.loop-b-preserved
 loop-b-preserved c =
-    let m = c.saturating-mul.ensures in
+    let m = c.saturating_mul.ensures in
     let f = c.from.ensures in
-    let a = c.saturating-add-n.ensures in
+    let a = c.saturating_add-n.ensures in
     let h = held_step c.args.piece.now c.loop-b.b-index c.loop-b.n (omega arith) c.requires c.loop-b.invariant in
     cc
 

@@ -7,9 +7,9 @@ use Rattle.lines.proofs.write.write_line.Goals as goal
 
 pub returns : goal.returns
 returns c =
-    let e = c.write-text-count.ensures in
+    let e = c.write_text-count.ensures in
     let t = line_text (said_of c.args.line) in
     record {
-      text = puts_more c.args.out.now c.write-text-count.new.out c.put.new.out t (10 ∷ []) e.text c.put.ensures;
-      count = omega (arith, length_push t 10, e.count, c.saturating-add.ensures);
+      text = puts_more c.args.out.now c.write_text-count.new.out c.put.new.out t (10 ∷ []) e.text c.put.ensures;
+      count = omega (arith, length_push t 10, e.count, c.saturating_add.ensures);
     }

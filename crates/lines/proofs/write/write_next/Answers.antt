@@ -4,9 +4,9 @@ use Rattle.lines.proofs.write.write_next.Goals as goal
 
 pub returns : goal.returns
 returns c =
-    let e = c.write-number.ensures in
+    let e = c.write_number.ensures in
     record {
-      text = puts_more c.args.out.now c.put.new.out c.write-number.new.out (32 ∷ []) (decimal c.args.n) c.put.ensures e.text;
+      text = puts_more c.args.out.now c.put.new.out c.write_number.new.out (32 ∷ []) (decimal c.args.n) c.put.ensures e.text;
       count = omega (arith, e.count);
       few = omega (arith, e.few);
     }

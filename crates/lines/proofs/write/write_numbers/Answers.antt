@@ -13,11 +13,11 @@ loop-n-preserved c =
     let f : ℕ → List ℕ = λ n. 32 ∷ decimal n in
     let i = c.loop-n.n-index in
     let ns = c.args.numbers.now in
-    let e = c.write-next.ensures in
-    let t : Puts c.loop-n.out c.write-next.new.out (f (get_or ns i 0)) = subst (λ (k : ℕ). Puts c.loop-n.out c.write-next.new.out (32 ∷ decimal k)) c.from.ensures e.text in
+    let e = c.write_next.ensures in
+    let t : Puts c.loop-n.out c.write_next.new.out (f (get_or ns i 0)) = subst (λ (k : ℕ). Puts c.loop-n.out c.write_next.new.out (32 ∷ decimal k)) c.from.ensures e.text in
     let l = length_joined f ns i 0 (omega arith) in
     let q = ap (λ (k : ℕ). length (f k)) c.from.ensures in
-    (puts_joined f c.args.out.now c.loop-n.out c.write-next.new.out ns i 0 (omega arith) c.loop-n.invariant.0 t, omega (arith, l, q, e.count, c.loop-n.invariant.1, c.saturating-add-count.ensures))
+    (puts_joined f c.args.out.now c.loop-n.out c.write_next.new.out ns i 0 (omega arith) c.loop-n.invariant.0 t, omega (arith, l, q, e.count, c.loop-n.invariant.1, c.saturating_add-count.ensures))
 
 pub returns : goal.returns
 returns c =

@@ -12,24 +12,24 @@ pub loop-leg-init : goal.loop-leg-init
 loop-leg-init g c =
     let o = c.distance.new.self in
     let m : Meaning = g.O.DistanceOracle.meaning o in
-    let said = c.in-ok-distance.ensures in
+    let said = c.in_ok-distance.ensures in
     let same : m ≡ g.O.DistanceOracle.meaning c.args.o.now = g.met.O.DistanceOracle.kept_meaning c.args.o.now o said.kept in
     let u-in : c.args.u < m.count = subst (λ (k : Meaning). c.args.u < k.count) (sym same) said.value.0 in
     let v-in : c.args.v < m.count = subst (λ (k : Meaning). c.args.v < k.count) (sym same) said.value.1 in
     let here : far m c.args.u c.args.v ≡ Some c.in-Some.field-0 = cc in
     (subst (λ (hs : List Hop). Walking m c.args.u c.args.v hs c.args.u) (sym (ap (map hop_of) c.new-legs.ensures.items)) (begins m c.args.u c.args.v c.in-Some.field-0 u-in here), v-in, refl, λ x k. k)
 
-pub returns-in-err-push : goal.returns-in-err-push
-returns-in-err-push g c =
-    let p = err_from_is_err_and c.from-residual-in-err-push.result c.from-residual-in-err-push.ensures.1 in
-    let said = c.in-ok-distance.ensures in
+pub returns-in_err-push : goal.returns-in_err-push
+returns-in_err-push g c =
+    let p = err_from_is_err_and c.from_residual-in_err-push.result c.from_residual-in_err-push.ensures.1 in
+    let said = c.in_ok-distance.ensures in
     record {
       value = rw (p.1, p.2) (said.value.0, said.value.1);
       kept = g.met.O.DistanceOracle.kept_on _ _ _ (c.loop-leg.invariant.3 c.args.o.now said.kept) c.in-Some-onward.ensures.kept;
     }
 
 -- one leg more, by the meaning that the turn began with
-farther : (g : given.Over) (c : goal.In-ok-push g) → Farther (g.O.DistanceOracle.meaning c.loop-leg.o) c.args.u c.args.v (map hop_of (vec_items c.loop-leg.legs)) c.loop-leg.at c.in-Some-onward.leg
+farther : (g : given.Over) (c : goal.In_ok-push g) → Farther (g.O.DistanceOracle.meaning c.loop-leg.o) c.args.u c.args.v (map hop_of (vec_items c.loop-leg.legs)) c.loop-leg.at c.in-Some-onward.leg
 farther g c =
     goes_on (g.O.DistanceOracle.meaning c.loop-leg.o) c.args.u c.args.v c.loop-leg.at (map hop_of (vec_items c.loop-leg.legs)) c.in-Some-onward.leg (g.met.O.DistanceOracle.sound c.loop-leg.o) c.loop-leg.invariant.1 c.loop-leg.invariant.0 (sym c.in-Some-onward.ensures.value)
 
@@ -43,7 +43,7 @@ loop-leg-preserved g c =
     let kept = c.in-Some-onward.ensures.kept in
     let same = g.met.O.DistanceOracle.kept_meaning c.loop-leg.o c.onward.new.o kept in
     let l = c.in-Some-onward.leg in
-    let items : map hop_of (vec_items c.push.new.self) ≡ map hop_of (vec_items c.loop-leg.legs) ++ (hop_of l ∷ []) = ap (map hop_of) c.in-ok-push.ensures.items ∙ map_push hop_of (vec_items c.loop-leg.legs) l in (
+    let items : map hop_of (vec_items c.push.new.self) ≡ map hop_of (vec_items c.loop-leg.legs) ++ (hop_of l ∷ []) = ap (map hop_of) c.in_ok-push.ensures.items ∙ map_push hop_of (vec_items c.loop-leg.legs) l in (
       subst (λ (k : Meaning). Walking k c.args.u c.args.v (map hop_of (vec_items c.push.new.self)) l.place) (sym same)
           (subst (λ (hs : List Hop). Walking (g.O.DistanceOracle.meaning c.loop-leg.o) c.args.u c.args.v hs l.place) (sym items) (farther g c).0),
       subst (λ (k : Meaning). c.args.v < k.count) (sym same) c.loop-leg.invariant.1,
@@ -53,8 +53,8 @@ loop-leg-preserved g c =
 
 pub returns : goal.returns
 returns g c =
-    let said = c.in-ok-distance.ensures in
-    let last = c.in-default-onward.ensures in
+    let said = c.in_ok-distance.ensures in
+    let last = c.in_default-onward.ensures in
     let o = c.loop-leg.o in
     let hs : List Hop = map hop_of (vec_items c.loop-leg.legs) in
     let whole : Walk (g.O.DistanceOracle.meaning o) c.args.u c.args.v hs = arrives (g.O.DistanceOracle.meaning o) c.args.u c.args.v c.loop-leg.at hs (g.met.O.DistanceOracle.sound o) c.loop-leg.invariant.1 c.loop-leg.invariant.0 (sym last.value) in

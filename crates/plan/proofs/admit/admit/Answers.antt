@@ -18,13 +18,13 @@ returns-in-Some c =
 pub returns-then-room-needed : goal.returns-then-room-needed
 returns-then-room-needed c =
     let e = length_lists c.args.groups.now in
-    ((omega arith, omega arith), sym c.in-default.ensures, c.saturating-sub-needed.ensures, c.if-room-needed.true)
+    ((omega arith, omega arith), sym c.in_default.ensures, c.saturating_sub-needed.ensures, c.if-room-needed.true)
 
 pub returns : goal.returns
 returns c =
     let e = length_lists c.args.groups.now in
     record {
       few = (omega arith, omega arith);
-      inside = sym c.in-default.ensures;
+      inside = sym c.in_default.ensures;
       roomy = omega arith;
     }

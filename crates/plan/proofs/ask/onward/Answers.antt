@@ -10,7 +10,7 @@ pub returns : goal.returns
 returns g c =
     let v = c.in-Ok.ensures in
     let rule = (g.O.DistanceOracle.meaning c.args.o.now).rule c.args.at c.args.to in
-    let p = parts c.in-Next.place c.in-Next.length rule.to rule.length (sym c.in-Next.is ∙ v.value.2 ∙ c.requires.on-way) in
+    let p = parts c.in-Next.place c.in-Next.length rule.to rule.length (sym c.in-Next.is ∙ v.value.2 ∙ c.requires.on_way) in
     record {
       place = p.0;
       length = p.1;

@@ -11,9 +11,9 @@ use Rattle.plan.proofs.choose.gather.Goals as goal
 pub loop-i-init : goal.loop-i-init
 loop-i-init g c = (([], take_more_set c.args.chosen.now 0 c.args.x (omega (arith, c.requires.room)), refl), refl)
 
-pub nearest-of-requires : goal.nearest-of-requires
-nearest-of-requires g c =
-    let item : Item (g.O.DistanceOracle.meaning c.args.o.now) (g.O.DistanceOracle.meaning c.loop-i.o) c.args.x c.args.others.now c.loop-i.i c.members-of.result.now = record { group = c.index-others-i.result; same = c.loop-i.invariant.1; inside = c.requires.inside; is = c.index-others-i.is; whose = c.members-of.ensures; within = c.loop-i-test.true } in
+pub nearest_of-requires : goal.nearest_of-requires
+nearest_of-requires g c =
+    let item : Item (g.O.DistanceOracle.meaning c.args.o.now) (g.O.DistanceOracle.meaning c.loop-i.o) c.args.x c.args.others.now c.loop-i.i c.members_of.result.now = record { group = c.index-others-i.result; same = c.loop-i.invariant.1; inside = c.requires.inside; is = c.index-others-i.is; whose = c.members_of.ensures; within = c.loop-i-test.true } in
     record {
       within = subst (λ (y : Meaning). c.args.x < y.count) (sym c.loop-i.invariant.1) c.requires.within;
       inside = item_inside item;
@@ -21,15 +21,15 @@ nearest-of-requires g c =
 
 pub unreachable-requires : goal.unreachable-requires
 unreachable-requires g c =
-    let item : Item (g.O.DistanceOracle.meaning c.args.o.now) (g.O.DistanceOracle.meaning c.loop-i.o) c.args.x c.args.others.now c.loop-i.i c.members-of.result.now = record { group = c.index-others-i.result; same = c.loop-i.invariant.1; inside = c.requires.inside; is = c.index-others-i.is; whose = c.members-of.ensures; within = c.loop-i-test.true } in
-    not_both (item_lost item c.in-default.ensures.value) c.requires.reached.1
+    let item : Item (g.O.DistanceOracle.meaning c.args.o.now) (g.O.DistanceOracle.meaning c.loop-i.o) c.args.x c.args.others.now c.loop-i.i c.members_of.result.now = record { group = c.index-others-i.result; same = c.loop-i.invariant.1; inside = c.requires.inside; is = c.index-others-i.is; whose = c.members_of.ensures; within = c.loop-i-test.true } in
+    not_both (item_lost item c.in_default.ensures.value) c.requires.reached.1
 
 pub loop-i-preserved : goal.loop-i-preserved
 loop-i-preserved g c =
-    let item : Item (g.O.DistanceOracle.meaning c.args.o.now) (g.O.DistanceOracle.meaning c.loop-i.o) c.args.x c.args.others.now c.loop-i.i c.members-of.result.now = record { group = c.index-others-i.result; same = c.loop-i.invariant.1; inside = c.requires.inside; is = c.index-others-i.is; whose = c.members-of.ensures; within = c.loop-i-test.true } in
+    let item : Item (g.O.DistanceOracle.meaning c.args.o.now) (g.O.DistanceOracle.meaning c.loop-i.o) c.args.x c.args.others.now c.loop-i.i c.members_of.result.now = record { group = c.index-others-i.result; same = c.loop-i.invariant.1; inside = c.requires.inside; is = c.index-others-i.is; whose = c.members_of.ensures; within = c.loop-i-test.true } in
     let said = c.in-Some.ensures in
     let room : c.loop-i.i + 1 < length c.loop-i.chosen = omega (arith, c.loop-i-test.true, c.requires.room, c.loop-i.auto.chosen, length-set c.args.chosen.now 0 c.args.x) in (
-      around_more (g.O.DistanceOracle.meaning c.args.o.now) c.args.x (lists (take c.loop-i.i c.args.others.now)) (lists (take (c.loop-i.i + 1) c.args.others.now)) c.members-of.result.now c.in-Some.near c.loop-i.chosen (c.loop-i.i + 1) c.loop-i.invariant.0 (lists_more item) (item_near item (Some c.in-Some.near) said.value) room,
+      around_more (g.O.DistanceOracle.meaning c.args.o.now) c.args.x (lists (take c.loop-i.i c.args.others.now)) (lists (take (c.loop-i.i + 1) c.args.others.now)) c.members_of.result.now c.in-Some.near c.loop-i.chosen (c.loop-i.i + 1) c.loop-i.invariant.0 (lists_more item) (item_near item (Some c.in-Some.near) said.value) room,
       said.same ∙ c.loop-i.invariant.1,
     )
 

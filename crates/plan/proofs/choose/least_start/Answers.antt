@@ -8,8 +8,8 @@ use Rattle.plan.specs.Choices.{Begins}
 use Rattle.plan.proofs.Chosens.{least_at}
 use Rattle.plan.proofs.choose.least_start.Goals as goal
 
-pub cost-of-cost-requires : goal.cost-of-cost-requires
-cost-of-cost-requires g c =
+pub cost_of-cost-requires : goal.cost_of-cost-requires
+cost_of-cost-requires g c =
     let xs : List ℕ = c.args.first.now in
     let i : ℕ = c.loop-v.v-index in
     record {
@@ -23,9 +23,9 @@ loop-v-preserved g c =
     let xs : List ℕ = c.args.first.now in
     let i : ℕ = c.loop-v.v-index in
     let costs = λ (v : ℕ). cost (far (g.O.DistanceOracle.meaning c.args.o.now)) v (lists c.args.others.now) in
-    let e : c.cost-of-cost.result ≡ costs (get_or xs i 0) = c.cost-of-cost.ensures.value ∙ ap (λ (y : Meaning). cost (far y) (get_or xs i 0) (lists c.args.others.now)) c.loop-v.invariant.1 in (
+    let e : c.cost_of-cost.result ≡ costs (get_or xs i 0) = c.cost_of-cost.ensures.value ∙ ap (λ (y : Meaning). cost (far y) (get_or xs i 0) (lists c.args.others.now)) c.loop-v.invariant.1 in (
       least_at costs xs i c.loop-v.best c.cheaper-best.result c.loop-v-test.true c.loop-v.invariant.0 (cc),
-      c.cost-of-cost.ensures.same ∙ c.loop-v.invariant.1,
+      c.cost_of-cost.ensures.same ∙ c.loop-v.invariant.1,
     )
 
 pub returns : goal.returns

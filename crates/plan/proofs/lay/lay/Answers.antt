@@ -66,10 +66,10 @@ returns g c =
       same = c.clear-2.ensures.same ∙ c.grow-trunk.ensures.same ∙ after;
     }
 
-pub returns-in-default : goal.returns-in-default
-returns-in-default g c =
+pub returns-in_default : goal.returns-in_default
+returns-in_default g c =
     let o = c.args.o.now in
-    let said = c.in-default.ensures in
+    let said = c.in_default.ensures in
     record {
       value = (none_joins (g.O.DistanceOracle.meaning o) (g.met.O.DistanceOracle.sound o) c.args.first.now (lists c.args.others.now) said.value, refl);
       focus = c.clear.ensures.focus;

@@ -3,13 +3,13 @@ use Rattle.ways.proofs.Metric.{not_both}
 use Rattle.plan.proofs.Near.{focus_near}
 use Rattle.plan.proofs.next.branch_from.Goals as goal
 
-pub nearest-to-requires : goal.nearest-to-requires
-nearest-to-requires g c = (c.requires c.args.from (inl refl)).0
+pub nearest_to-requires : goal.nearest_to-requires
+nearest_to-requires g c = (c.requires c.args.from (inl refl)).0
 
 pub unreachable-requires : goal.unreachable-requires
 unreachable-requires g c =
     let r = (c.requires c.args.from (inl refl)).1 in
-    not_both (c.in-default.ensures.value r.0 r.1 r.2) r.3.1
+    not_both (c.in_default.ensures.value r.0 r.1 r.2) r.3.1
 
 pub returns-then-near-eq0 : goal.returns-then-near-eq0
 returns-then-near-eq0 g c =
@@ -19,7 +19,7 @@ returns-then-near-eq0 g c =
     record {
       value = sym e ∙ eq-eqb c.in-Some.near.distance 0 c.if-near-eq0.true;
       same = v.same;
-      same-focus = v.same-focus;
+      same-focus = v.same_focus;
     }
 
 pub returns : goal.returns
@@ -30,5 +30,5 @@ returns g c =
     record {
       value = (refl, sym e ∙ ne_eqb c.in-Some.near.distance 0 c.if-near-eq0.false, v.value);
       same = v.same;
-      same-focus = v.same-focus;
+      same-focus = v.same_focus;
     }

@@ -19,8 +19,8 @@ one_of m m' f f' cs c p q o j =
 from_at : (m m' : Meaning) (f f' : ℕ → Bool) (c : ℕ) (a : Option Branch) → m' ≡ m → f' ≡ f → BranchFrom m' f' c a → BranchFrom m f c a
 from_at m m' f f' c a p q k = subst (λ (y : Meaning). BranchFrom y f c a) p (subst (λ (y : ℕ → Bool). BranchFrom m' y c a) q k)
 
-pub branch-from-branch-requires : goal.branch-from-branch-requires
-branch-from-branch-requires g c =
+pub branch_from-branch-requires : goal.branch_from-branch-requires
+branch_from-branch-requires g c =
     let o = c.args.o.now in
     let xs : List ℕ = c.args.chosen.now in
     one_of (g.O.DistanceOracle.meaning o) (g.O.DistanceOracle.meaning c.loop-c.o) (g.O.GroupOracle.focused o) (g.O.GroupOracle.focused c.loop-c.o) xs (get_or xs c.loop-c.c-index 0) c.loop-c.invariant.1 c.loop-c.invariant.2 (get_or_on xs c.loop-c.c-index c.loop-c-test.true) c.requires
@@ -33,9 +33,9 @@ loop-c-preserved g c =
     let o = c.args.o.now in
     let xs : List ℕ = c.args.chosen.now in
     let i : ℕ = c.loop-c.c-index in (
-      next_at (g.O.DistanceOracle.meaning o) (g.O.GroupOracle.focused o) xs i c.loop-c.best c.branch-from-branch.result c.sooner-best.result c.loop-c-test.true c.loop-c.invariant.0 (from_at (g.O.DistanceOracle.meaning o) (g.O.DistanceOracle.meaning c.loop-c.o) (g.O.GroupOracle.focused o) (g.O.GroupOracle.focused c.loop-c.o) (get_or xs i 0) c.branch-from-branch.result c.loop-c.invariant.1 c.loop-c.invariant.2 c.branch-from-branch.ensures.value) c.sooner-best.ensures,
-      c.branch-from-branch.ensures.same ∙ c.loop-c.invariant.1,
-      c.branch-from-branch.ensures.same-focus ∙ c.loop-c.invariant.2,
+      next_at (g.O.DistanceOracle.meaning o) (g.O.GroupOracle.focused o) xs i c.loop-c.best c.branch_from-branch.result c.sooner-best.result c.loop-c-test.true c.loop-c.invariant.0 (from_at (g.O.DistanceOracle.meaning o) (g.O.DistanceOracle.meaning c.loop-c.o) (g.O.GroupOracle.focused o) (g.O.GroupOracle.focused c.loop-c.o) (get_or xs i 0) c.branch_from-branch.result c.loop-c.invariant.1 c.loop-c.invariant.2 c.branch_from-branch.ensures.value) c.sooner-best.ensures,
+      c.branch_from-branch.ensures.same ∙ c.loop-c.invariant.1,
+      c.branch_from-branch.ensures.same_focus ∙ c.loop-c.invariant.2,
     )
 
 pub returns : goal.returns

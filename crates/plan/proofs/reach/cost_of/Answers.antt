@@ -6,9 +6,9 @@ use Rattle.plan.specs.Groups.{lists}
 use Rattle.plan.proofs.Costs.{Item, item_inside, item_more, item_lost}
 use Rattle.plan.proofs.reach.cost_of.Goals as goal
 
-pub nearest-of-requires : goal.nearest-of-requires
-nearest-of-requires g c =
-    let item : Item (g.O.DistanceOracle.meaning c.args.o.now) (g.O.DistanceOracle.meaning c.loop-g.o) c.args.v c.args.groups.now c.loop-g.g-index c.members-of.result.now = record { group = c.g-item.result; same = c.loop-g.invariant.1; inside = c.requires.inside; is = c.g-item.is; whose = c.members-of.ensures; within = c.loop-g-test.true } in
+pub nearest_of-requires : goal.nearest_of-requires
+nearest_of-requires g c =
+    let item : Item (g.O.DistanceOracle.meaning c.args.o.now) (g.O.DistanceOracle.meaning c.loop-g.o) c.args.v c.args.groups.now c.loop-g.g-index c.members_of.result.now = record { group = c.g-item.result; same = c.loop-g.invariant.1; inside = c.requires.inside; is = c.g-item.is; whose = c.members_of.ensures; within = c.loop-g-test.true } in
     record {
       within = subst (λ (y : Meaning). c.args.v < y.count) (sym c.loop-g.invariant.1) c.requires.within;
       inside = item_inside item;
@@ -16,7 +16,7 @@ nearest-of-requires g c =
 
 pub loop-g-preserved : goal.loop-g-preserved
 loop-g-preserved g c =
-    let item : Item (g.O.DistanceOracle.meaning c.args.o.now) (g.O.DistanceOracle.meaning c.loop-g.o) c.args.v c.args.groups.now c.loop-g.g-index c.members-of.result.now = record { group = c.g-item.result; same = c.loop-g.invariant.1; inside = c.requires.inside; is = c.g-item.is; whose = c.members-of.ensures; within = c.loop-g-test.true } in
+    let item : Item (g.O.DistanceOracle.meaning c.args.o.now) (g.O.DistanceOracle.meaning c.loop-g.o) c.args.v c.args.groups.now c.loop-g.g-index c.members_of.result.now = record { group = c.g-item.result; same = c.loop-g.invariant.1; inside = c.requires.inside; is = c.g-item.is; whose = c.members_of.ensures; within = c.loop-g-test.true } in
     let e : c.loop-g.sum + c.in-Some.near.distance ≡ c.loop-g.sum + c.from-sum.result = omega (arith, c.from-sum.ensures) in (
       ap Some (sym e) ∙ item_more item c.loop-g.sum c.in-Some.near c.loop-g.invariant.0 c.in-Some.ensures.value,
       c.in-Some.ensures.same ∙ c.loop-g.invariant.1,
@@ -31,7 +31,7 @@ returns g c = record {
 
 pub returns-in-None : goal.returns-in-None
 returns-in-None g c =
-    let item : Item (g.O.DistanceOracle.meaning c.args.o.now) (g.O.DistanceOracle.meaning c.loop-g.o) c.args.v c.args.groups.now c.loop-g.g-index c.members-of.result.now = record { group = c.g-item.result; same = c.loop-g.invariant.1; inside = c.requires.inside; is = c.g-item.is; whose = c.members-of.ensures; within = c.loop-g-test.true } in
+    let item : Item (g.O.DistanceOracle.meaning c.args.o.now) (g.O.DistanceOracle.meaning c.loop-g.o) c.args.v c.args.groups.now c.loop-g.g-index c.members_of.result.now = record { group = c.g-item.result; same = c.loop-g.invariant.1; inside = c.requires.inside; is = c.g-item.is; whose = c.members_of.ensures; within = c.loop-g-test.true } in
     record {
       value = sym (item_lost item c.in-None.ensures.value);
       same = c.in-None.ensures.same ∙ c.loop-g.invariant.1;

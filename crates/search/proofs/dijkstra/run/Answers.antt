@@ -100,7 +100,7 @@ loop-entry-preserved c =
 
 pub returns : goal.returns
 returns c =
-    let told = c.in-default.ensures in
+    let told = c.in_default.ensures in
     let ds = rows_of c.args.frame.now in
     let k = c.loop-entry.invariant.3 in
     record {

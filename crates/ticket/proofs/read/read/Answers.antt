@@ -21,7 +21,7 @@ pub loop-line-preserved : goal.loop-line-preserved
 loop-line-preserved c =
     let a = c.loop-line.invariant in
     let s = c.in-Some.ensures in
-    along c.args.bytes.now (open_room c.empty.new.self) c.loop-line.rest.now c.in-Some.line.now c.in-Some.after.now c.loop-line.at c.loop-line.due c.in-Ok.next c.loop-line.frame c.take-line.new.frame c.loop-line.job c.take-line.new.job a s.0 s.1 (c.in-Ok.ensures (open_room c.empty.new.self) a.state a.holds a.due_is a.tame)
+    along c.args.bytes.now (open_room c.empty.new.self) c.loop-line.rest.now c.in-Some.line.now c.in-Some.after.now c.loop-line.at c.loop-line.due c.in-Ok.next c.loop-line.frame c.take_line.new.frame c.loop-line.job c.take_line.new.job a s.0 s.1 (c.in-Ok.ensures (open_room c.empty.new.self) a.state a.holds a.due_is a.tame)
 
 pub loop-line-smaller : goal.loop-line-smaller
 loop-line-smaller c =
@@ -36,14 +36,14 @@ pub returns-in-Err : goal.returns-in-Err
 returns-in-Err c =
     let a = c.loop-line.invariant in
     let s = c.in-Some.ensures in
-    let w = said c.args.bytes.now (open_room c.args.frame.now) c.take-line.new.frame c.take-line.new.job (Some c.in-Err.fault)
-    (subst (λ (r : ℕ). Answers c.args.bytes.now r c.take-line.new.frame c.take-line.new.job (Some c.in-Err.fault)) c.empty.ensures.room
-    (stopped c.args.bytes.now (open_room c.empty.new.self) c.loop-line.rest.now c.in-Some.line.now c.in-Some.after.now c.loop-line.at c.loop-line.due c.loop-line.frame c.take-line.new.frame c.loop-line.job c.take-line.new.job c.in-Err.fault a s.0 s.1 (c.in-Err.ensures (open_room c.empty.new.self) a.state a.holds a.due_is a.tame))) in
+    let w = said c.args.bytes.now (open_room c.args.frame.now) c.take_line.new.frame c.take_line.new.job (Some c.in-Err.fault)
+    (subst (λ (r : ℕ). Answers c.args.bytes.now r c.take_line.new.frame c.take_line.new.job (Some c.in-Err.fault)) c.empty.ensures.room
+    (stopped c.args.bytes.now (open_room c.empty.new.self) c.loop-line.rest.now c.in-Some.line.now c.in-Some.after.now c.loop-line.at c.loop-line.due c.loop-line.frame c.take_line.new.frame c.loop-line.job c.take_line.new.job c.in-Err.fault a s.0 s.1 (c.in-Err.ensures (open_room c.empty.new.self) a.state a.holds a.due_is a.tame))) in
     record { answers = w.0; text = w.1; back = w.2 }
 
 pub returns : goal.returns
 returns c =
     let w = said c.args.bytes.now (open_room c.args.frame.now) c.loop-line.frame c.loop-line.job (answer_of c.close.result)
     (subst (λ (r : ℕ). Answers c.args.bytes.now r c.loop-line.frame c.loop-line.job (answer_of c.close.result)) c.empty.ensures.room
-    (closed c.args.bytes.now (open_room c.empty.new.self) c.loop-line.rest.now c.loop-line.at c.loop-line.due c.loop-line.frame c.loop-line.job (answer_of c.close.result) c.loop-line.invariant c.in-default.ensures c.close.ensures)) in
+    (closed c.args.bytes.now (open_room c.empty.new.self) c.loop-line.rest.now c.loop-line.at c.loop-line.due c.loop-line.frame c.loop-line.job (answer_of c.close.result) c.loop-line.invariant c.in_default.ensures c.close.ensures)) in
     record { answers = w.0; text = w.1; back = w.2 }

@@ -11,8 +11,8 @@ loop-row-init c = wrote_none c.args.out.now
 
 pub loop-row-preserved : goal.loop-row-preserved
 loop-row-preserved c =
-    let w = c.write-line.ensures in
-    wrote_joined duct_text c.args.out.now c.loop-row.out c.write-line.new.out c.loop-row.count c.write-line.result c.saturating-add-count.result c.args.rows.now c.loop-row.row-index _ (omega arith) c.loop-row.invariant (record { puts = w.text; long = w.count }) c.saturating-add-count.ensures
+    let w = c.write_line.ensures in
+    wrote_joined duct_text c.args.out.now c.loop-row.out c.write_line.new.out c.loop-row.count c.write_line.result c.saturating_add-count.result c.args.rows.now c.loop-row.row-index _ (omega arith) c.loop-row.invariant (record { puts = w.text; long = w.count }) c.saturating_add-count.ensures
 
 pub returns : goal.returns
 returns c = subst (λ (rs : List Row). Wrote c.args.out.now c.loop-row.out c.loop-row.count (flat_map duct_text rs)) (take_all c.loop-row.row-index c.args.rows.now (omega arith)) c.loop-row.invariant

@@ -3,7 +3,7 @@ use Rattle.job.specs.Held.{held}
 use Rattle.ticket.proofs.write.write_fitting.Goals as goal
 
 pub returns-in-Some : goal.returns-in-Some
-returns-in-Some c = wrote_entry c.args.out.now c.write-fitting.new.out c.write-fitting.result c.args.number c.in-Some.places.now (held c.args.job.now c.args.number) c.in-Some.ensures.value c.write-fitting.ensures.text c.write-fitting.ensures.count
+returns-in-Some c = wrote_entry c.args.out.now c.write_fitting.new.out c.write_fitting.result c.args.number c.in-Some.places.now (held c.args.job.now c.args.number) c.in-Some.ensures.value c.write_fitting.ensures.text c.write_fitting.ensures.count
 
 pub returns-in-None : goal.returns-in-None
 returns-in-None c = wrote_absent c.args.out.now c.args.number (held c.args.job.now c.args.number) c.in-None.ensures.value

@@ -4,8 +4,8 @@ use Rattle.frame.specs.Rows.{IsDuct, row_at}
 use Rattle.frame.proofs.Facts.{closed_duct}
 use Rattle.frame.proofs.frame.ClosedFrame.duct.Goals as goal
 
-pub of-sound-requires : goal.of-sound-requires
-of-sound-requires c =
+pub of_sound-requires : goal.of_sound-requires
+of_sound-requires c =
     let s = c.args.self.now in
     let l : c.args.i < length (vec_items s.rows) = omega (arith, s.rows.ok.0) in
     let e : c.index.result.now ≡ row_at (vec_items s.rows) c.args.i = search (rules, get_or_read) in

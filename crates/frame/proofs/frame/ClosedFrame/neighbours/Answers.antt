@@ -7,7 +7,7 @@ use Rattle.frame.proofs.Facts.{closed_lawful}
 use Rattle.frame.proofs.Fan.{unsealed}
 use Rattle.frame.proofs.Near.{Span, span, no_neighbours, neighbours}
 use Rattle.frame.proofs.frame.ClosedFrame.neighbours.Goals as goal
-use Rattle.frame.proofs.frame.ClosedFrame.neighbours.Goals.{After-as-slice}
+use Rattle.frame.proofs.frame.ClosedFrame.neighbours.Goals.{After-as_slice}
 
 pub returns-then-place-self : goal.returns-then-place-self
 returns-then-place-self c =
@@ -27,22 +27,22 @@ known c =
     let b : c.index-end.result.now ≡ from_at offs (c.args.place + 1) = search (rules, get_or_read) in
     span _ _ _ _ f c.args.place in' _ _ a b
 
-pub offset-bounds-as-slice-start : goal.offset-bounds-as-slice-start
-offset-bounds-as-slice-start c = let s = known c in omega (arith, s.rises, s.fits, s.few)
+pub offset-bounds-as_slice-start : goal.offset-bounds-as_slice-start
+offset-bounds-as_slice-start c = let s = known c in omega (arith, s.rises, s.fits, s.few)
 
-pub slice-bounds-result-count : goal.slice-bounds-result-count
-slice-bounds-result-count c = (known c).rises
+pub slice_bounds-result-count : goal.slice_bounds-result-count
+slice_bounds-result-count c = (known c).rises
 
-pub slice-bounds-result-start : goal.slice-bounds-result-start
-slice-bounds-result-start c = (known c).rises
+pub slice_bounds-result-start : goal.slice_bounds-result-start
+slice_bounds-result-start c = (known c).rises
 
-pub slice-bounds-result-end-2 : goal.slice-bounds-result-end-2
-slice-bounds-result-end-2 c =
-    let h : c.index-end.result.now ≤ length c.as-slice.result.now = omega (arith, (known c).ranges, ap length c.as-slice.ensures.value) in
+pub slice_bounds-result-end-2 : goal.slice_bounds-result-end-2
+slice_bounds-result-end-2 c =
+    let h : c.index-end.result.now ≤ length c.as_slice.result.now = omega (arith, (known c).ranges, ap length c.as_slice.ensures.value) in
     h
 
 pub returns : goal.returns
 returns c =
     let s = c.args.self.now in
-    subst (λ (l : List Arc). Neighbours (vec_items s.rows) c.args.place (take (c.index-end.result.now - c.index-start.result.now) (drop c.index-start.result.now l))) (sym c.as-slice.ensures.value)
-    (neighbours _ _ _ _ (unsealed _ _ _ _ s.fan) c.args.place c.if-place-self.false _ _ (known (goal.at.returns c).After-as-slice))
+    subst (λ (l : List Arc). Neighbours (vec_items s.rows) c.args.place (take (c.index-end.result.now - c.index-start.result.now) (drop c.index-start.result.now l))) (sym c.as_slice.ensures.value)
+    (neighbours _ _ _ _ (unsealed _ _ _ _ s.fan) c.args.place c.if-place-self.false _ _ (known (goal.at.returns c).After-as_slice))

@@ -6,4 +6,4 @@ use Rattle.frame.proofs.frame.ClosedFrame.rows.Goals as goal
 pub returns : goal.returns
 returns c =
     let s = c.args.self.now in
-    record { value = c.as-slice.ensures.value; sound = subst (Sound s.places) (sym c.as-slice.ensures.value) (closed_sound s) }
+    record { value = c.as_slice.ensures.value; sound = subst (Sound s.places) (sym c.as_slice.ensures.value) (closed_sound s) }

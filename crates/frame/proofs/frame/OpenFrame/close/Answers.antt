@@ -18,13 +18,13 @@ lay-requires c =
     let r = rises_from s.places (vec_items s.rows) (vec_items s.arcs) xs s.sound s.both c.sort.ensures.permutation up in
     subst (IsNonDecreasingBy (λ (a : Arc). a.from)) (sym c.deref.ensures.value) r
 
-pub invariant-of-result : goal.invariant-of-result
-invariant-of-result c =
+pub invariant_of-result : goal.invariant_of-result
+invariant_of-result c =
     let s = c.args.self in
     let xs = vec_items c.sort.new.self in
     let offs = c.lay.new.offsets in
     let up = IsNonDecreasingBy-from_sort key xs _ (sym c.sort.new.self.ok.0 ∙ c.sort.ensures.len) (c.sort.ensures.sorted (on key nat_cmp_total)) in
-    let size : length offs ≡ s.offsets.len = c.lay.auto.offsets ∙ c.deref-mut.ensures.len in
+    let size : length offs ≡ s.offsets.len = c.lay.auto.offsets ∙ c.deref_mut.ensures.len in
     let e : take s.offsets.len (offs ++ drop (length offs) s.offsets.items) ≡ offs = take_at offs _ s.offsets.len size in
     let parted : (v : ℕ) → v < length offs → Parted xs v (from_at offs v) = λ v l. subst (λ (a : List Arc). Parted a v (from_at offs v)) c.deref.ensures.value (c.lay.ensures v l) in
     let few = (unkept s.places (vec_items s.rows) s.sound).few in

@@ -4,26 +4,26 @@ use Rattle.frame.proofs.Arcs.{length_arcs, both_push}
 use Rattle.frame.proofs.Sounds.{Taken, taken, sound_push}
 use Rattle.frame.proofs.frame.OpenFrame.push.Goals as goal
 
-pub push-reserved-requires-2 : goal.push-reserved-requires-2
-push-reserved-requires-2 c =
+pub push_reserved-requires-2 : goal.push_reserved-requires-2
+push_reserved-requires-2 c =
     let s = c.args.self.now in
     let t : Taken s.places s.room (vec_items s.rows) c.args.row = taken _ _ _ _ c.requires in
     omega (arith, ap length s.both, length_arcs 0 (vec_items s.rows), s.arcs.ok.0, s.rows.ok.0, s.memory, t.fits)
 
-pub push-reserved-requires-3 : goal.push-reserved-requires-3
-push-reserved-requires-3 c =
+pub push_reserved-requires-3 : goal.push_reserved-requires-3
+push_reserved-requires-3 c =
     let s = c.args.self.now in
     let t : Taken s.places s.room (vec_items s.rows) c.args.row = taken _ _ _ _ c.requires in
-    omega (arith, ap length s.both, length_arcs 0 (vec_items s.rows), s.arcs.ok.0, s.rows.ok.0, s.memory, t.fits, c.push-reserved-2.ensures.len, c.push-reserved-2.ensures.capacity)
+    omega (arith, ap length s.both, length_arcs 0 (vec_items s.rows), s.arcs.ok.0, s.rows.ok.0, s.memory, t.fits, c.push_reserved-2.ensures.len, c.push_reserved-2.ensures.capacity)
 
-pub invariant-of-self : goal.invariant-of-self
-invariant-of-self c =
+pub invariant_of-self : goal.invariant_of-self
+invariant_of-self c =
     let s = c.args.self.now in
     let rows = vec_items s.rows in
     let t : Taken s.places s.room rows c.args.row = taken _ _ _ _ c.requires in
-    let more = c.push-reserved.ensures in
-    let first = c.push-reserved-2.ensures in
-    let second = c.push-reserved-3.ensures in (
+    let more = c.push_reserved.ensures in
+    let first = c.push_reserved-2.ensures in
+    let second = c.push_reserved-3.ensures in (
       λ k. s.sound (λ h. k (subst (Sound s.places) (sym more.items) (sound_push s.places s.room rows c.args.row s.limits.0 t h))),
       (
         both_push rows _ _ _ _ c.args.row _ s.both first.items second.items more.items (c.len-duct.ensures ∙ s.rows.ok.0),

@@ -5,8 +5,8 @@ use Rattle.job.specs.Places.{lawful}
 use Rattle.job.proofs.Entries.{entered, entered_sound}
 use Rattle.job.proofs.job.Job.enter.Goals as goal
 
-pub invariant-of-self : goal.invariant-of-self
-invariant-of-self c =
+pub invariant_of-self : goal.invariant_of-self
+invariant_of-self c =
     let job = c.args.self.now in
     let g = c.args.fitting in
     let x = c.gathered.result in

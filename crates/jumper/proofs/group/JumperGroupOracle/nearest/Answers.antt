@@ -16,31 +16,31 @@ returns-then-not-takes g c =
       kept = (c.nearest.ensures.kept, refl, refl, refl);
     }
 
-pub seen-from-requires : goal.seen-from-requires
-seen-from-requires g c =
+pub seen_from-requires : goal.seen_from-requires
+seen_from-requires g c =
     let j = c.args.self.now in
     let l = lawful_duct (g.O.DistanceOracle.meaning j.below).count j.a j.b j.length (sym c.if-not-takes.ensures) in
     record { a-within = l.first_in; b-within = l.second_in }
 
-pub returns-in-err-seen : goal.returns-in-err-seen
-returns-in-err-seen g c =
+pub returns-in_err-seen : goal.returns-in_err-seen
+returns-in_err-seen g c =
     let j = c.args.self.now in
-    let p = err_from_is_err_and c.from-residual.result c.from-residual.ensures.1 in
+    let p = err_from_is_err_and c.from_residual.result c.from_residual.ensures.1 in
     record {
-      value = on_jumped (g.O.DistanceOracle.meaning j.below) j.a j.b j.length (λ k. Found k (g.O.GroupOracle.focused j.below) c.args.v c.from-residual.result) c.if-not-takes.ensures (rw (p.1, p.2) c.in-err-seen.ensures.value);
-      kept = (c.in-err-seen.ensures.kept, refl, refl, refl);
+      value = on_jumped (g.O.DistanceOracle.meaning j.below) j.a j.b j.length (λ k. Found k (g.O.GroupOracle.focused j.below) c.args.v c.from_residual.result) c.if-not-takes.ensures (rw (p.1, p.2) c.in_err-seen.ensures.value);
+      kept = (c.in_err-seen.ensures.kept, refl, refl, refl);
     }
 
-pub found-of-requires : goal.found-of-requires
-found-of-requires g c =
+pub found_of-requires : goal.found_of-requires
+found_of-requires g c =
     let j = c.args.self.now in
     let m : Meaning = g.O.DistanceOracle.meaning j.below in
     let f = g.O.GroupOracle.focused j.below in
     let l = lawful_duct m.count j.a j.b j.length (sym c.if-not-takes.ensures) in
     let s = g.met.O.DistanceOracle.sound j.below in
-    let said = c.in-ok-seen.ensures.value in
+    let said = c.in_ok-seen.ensures.value in
     let t = said.1 in
-    sight_short m j.a j.b j.length s l f c.args.v said.0 c.in-ok-seen.seen
+    sight_short m j.a j.b j.length s l f c.args.v said.0 c.in_ok-seen.seen
     (finds_with m j.a j.b j.length s l f c.args.v said.0 t.0 t.1 t.2 _ t.3 t.4 t.5 t.6)
 
 pub returns : goal.returns
@@ -50,11 +50,11 @@ returns g c =
     let f = g.O.GroupOracle.focused j.below in
     let l = lawful_duct m.count j.a j.b j.length (sym c.if-not-takes.ensures) in
     let s = g.met.O.DistanceOracle.sound j.below in
-    let said = c.in-ok-seen.ensures in
+    let said = c.in_ok-seen.ensures in
     let t = said.value.1 in
-    let near : Finds (with_duct m j.a j.b j.length) f c.args.v c.found-of.result =
-    finds_with m j.a j.b j.length s l f c.args.v said.value.0 t.0 t.1 t.2 c.found-of.result t.3 t.4 t.5 (cc t.6) in
+    let near : Finds (with_duct m j.a j.b j.length) f c.args.v c.found_of.result =
+    finds_with m j.a j.b j.length s l f c.args.v said.value.0 t.0 t.1 t.2 c.found_of.result t.3 t.4 t.5 (cc t.6) in
     record {
-      value = on_jumped m j.a j.b j.length (λ k. Found k f c.args.v (Ok c.found-of.result)) c.if-not-takes.ensures (said.value.0, near);
+      value = on_jumped m j.a j.b j.length (λ k. Found k f c.args.v (Ok c.found_of.result)) c.if-not-takes.ensures (said.value.0, near);
       kept = (said.kept, refl, refl, refl);
     }

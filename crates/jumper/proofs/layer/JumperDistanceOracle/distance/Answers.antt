@@ -14,19 +14,19 @@ returns-then-not-takes g c =
       kept = (c.distance.ensures.kept, refl, refl, refl);
     }
 
-pub sums-of-requires : goal.sums-of-requires
-sums-of-requires g c =
+pub sums_of-requires : goal.sums_of-requires
+sums_of-requires g c =
     let j = c.args.self.now in
     let l = lawful_duct (g.O.DistanceOracle.meaning j.below).count j.a j.b j.length (sym c.if-not-takes.ensures) in
     record { a-within = l.first_in; b-within = l.second_in }
 
-pub returns-in-err-sums : goal.returns-in-err-sums
-returns-in-err-sums g c =
+pub returns-in_err-sums : goal.returns-in_err-sums
+returns-in_err-sums g c =
     let j = c.args.self.now in
-    let p = err_from_is_err_and c.from-residual.result c.from-residual.ensures.1 in
+    let p = err_from_is_err_and c.from_residual.result c.from_residual.ensures.1 in
     record {
-      value = on_jumped (g.O.DistanceOracle.meaning j.below) j.a j.b j.length (λ k. Measured k c.args.u c.args.v c.from-residual.result) c.if-not-takes.ensures (rw (p.1, p.2) c.in-err-sums.ensures.value);
-      kept = (c.in-err-sums.ensures.kept, refl, refl, refl);
+      value = on_jumped (g.O.DistanceOracle.meaning j.below) j.a j.b j.length (λ k. Measured k c.args.u c.args.v c.from_residual.result) c.if-not-takes.ensures (rw (p.1, p.2) c.in_err-sums.ensures.value);
+      kept = (c.in_err-sums.ensures.kept, refl, refl, refl);
     }
 
 pub narrowed-requires : goal.narrowed-requires
@@ -34,7 +34,7 @@ narrowed-requires g c =
     let j = c.args.self.now in
     let m : Meaning = g.O.DistanceOracle.meaning j.below in
     let l = lawful_duct m.count j.a j.b j.length (sym c.if-not-takes.ensures) in
-    let said = c.in-ok-sums.ensures.value in
+    let said = c.in_ok-sums.ensures.value in
     least_brief m j.a j.b j.length c.args.u c.args.v c.least.result (g.met.O.DistanceOracle.sound j.below) l said.0 said.1 (cc)
 
 pub returns : goal.returns
@@ -42,7 +42,7 @@ returns g c =
     let j = c.args.self.now in
     let m : Meaning = g.O.DistanceOracle.meaning j.below in
     let l = lawful_duct m.count j.a j.b j.length (sym c.if-not-takes.ensures) in
-    let said = c.in-ok-sums.ensures in
+    let said = c.in_ok-sums.ensures in
     let three = three_sums m j.a j.b j.length c.args.u c.args.v (g.met.O.DistanceOracle.sound j.below) l said.value.0 said.value.1 in
     record {
       value = on_jumped m j.a j.b j.length (λ k. Measured k c.args.u c.args.v (Ok c.narrowed.result)) c.if-not-takes.ensures (said.value.0, said.value.1, cc);

@@ -16,26 +16,26 @@ returns-then-not-takes g c =
       kept = (c.step.ensures.kept, refl, refl, refl);
     }
 
-pub sums-of-requires : goal.sums-of-requires
-sums-of-requires g c =
+pub sums_of-requires : goal.sums_of-requires
+sums_of-requires g c =
     let j = c.args.self.now in
     let l = lawful_duct (g.O.DistanceOracle.meaning j.below).count j.a j.b j.length (sym c.if-not-takes.ensures) in
     record { a-within = l.first_in; b-within = l.second_in }
 
-pub returns-in-err-sums : goal.returns-in-err-sums
-returns-in-err-sums g c =
+pub returns-in_err-sums : goal.returns-in_err-sums
+returns-in_err-sums g c =
     let j = c.args.self.now in
-    let p = err_from_is_err_and c.from-residual.result c.from-residual.ensures.1 in
+    let p = err_from_is_err_and c.from_residual.result c.from_residual.ensures.1 in
     record {
-      value = on_jumped (g.O.DistanceOracle.meaning j.below) j.a j.b j.length (λ k. Stepped k c.args.u c.args.v c.from-residual.result) c.if-not-takes.ensures (rw (p.1, p.2) c.in-err-sums.ensures.value);
-      kept = (c.in-err-sums.ensures.kept, refl, refl, refl);
+      value = on_jumped (g.O.DistanceOracle.meaning j.below) j.a j.b j.length (λ k. Stepped k c.args.u c.args.v c.from_residual.result) c.if-not-takes.ensures (rw (p.1, p.2) c.in_err-sums.ensures.value);
+      kept = (c.in_err-sums.ensures.kept, refl, refl, refl);
     }
 
 pub returns-then-u-v : goal.returns-then-u-v
 returns-then-u-v g c =
     let j = c.args.self.now in
     let m : Meaning = g.O.DistanceOracle.meaning j.below in
-    let said = c.in-ok-sums.ensures in
+    let said = c.in_ok-sums.ensures in
     record {
       value = on_jumped m j.a j.b j.length (λ k. Stepped k c.args.u c.args.v (Ok Here)) c.if-not-takes.ensures (said.value.0, said.value.1, sym (pick_at c.args.u c.args.v Here _ c.if-u-v.true));
       kept = (said.kept, refl, refl, refl);
@@ -44,14 +44,14 @@ returns-then-u-v g c =
 pub returns-then-stays : goal.returns-then-stays
 returns-then-stays g c =
     let j = c.args.self.now in
-    let o = c.sums-of.new.o in
+    let o = c.sums_of.new.o in
     let met = g.met.O.DistanceOracle in
     let m : Meaning = g.O.DistanceOracle.meaning j.below in
     let u = c.args.u in
     let v = c.args.v in
     let r = c.step-then-stays.result in
     let l = lawful_duct m.count j.a j.b j.length (sym c.if-not-takes.ensures) in
-    let said = c.in-ok-sums.ensures in
+    let said = c.in_ok-sums.ensures in
     let same = met.kept_meaning j.below o said.kept in
     let below : Stepped m u v r = subst (λ (k : Meaning). Stepped k u v r) same c.step-then-stays.ensures.value in
     record {
@@ -70,7 +70,7 @@ returns-then-u-crossing g c =
     let v = c.args.v in
     let k = c.crossing-crossing.result in
     let l = lawful_duct m.count j.a j.b j.length (sym c.if-not-takes.ensures) in
-    let said = c.in-ok-sums.ensures in
+    let said = c.in_ok-sums.ensures in
     let over = step_crosses m j.a j.b j.length (met.sound j.below) l u v said.value.0 said.value.1 k c.if-u-v.false (cc) (cc) in
     record {
       value = on_jumped m j.a j.b j.length (λ n. Stepped n u v (Ok (Next k.there j.length))) c.if-not-takes.ensures
@@ -81,7 +81,7 @@ returns-then-u-crossing g c =
 pub returns : goal.returns
 returns g c =
     let j = c.args.self.now in
-    let o = c.sums-of.new.o in
+    let o = c.sums_of.new.o in
     let met = g.met.O.DistanceOracle in
     let m : Meaning = g.O.DistanceOracle.meaning j.below in
     let u = c.args.u in
@@ -89,7 +89,7 @@ returns g c =
     let k = c.crossing-crossing.result in
     let r = c.step-2.result in
     let l = lawful_duct m.count j.a j.b j.length (sym c.if-not-takes.ensures) in
-    let said = c.in-ok-sums.ensures in
+    let said = c.in_ok-sums.ensures in
     let same = met.kept_meaning j.below o said.kept in
     let below : Stepped m u k.near r = subst (λ (n : Meaning). Stepped n u k.near r) same c.step-2.ensures.value in
     let over = step_crosses m j.a j.b j.length (met.sound j.below) l u v said.value.0 said.value.1 k c.if-u-v.false (cc) (cc) in

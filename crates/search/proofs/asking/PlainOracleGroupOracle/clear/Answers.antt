@@ -10,6 +10,6 @@ pub returns : goal.returns
 returns c =
     let was = c.args.self.now.records in
     let ws = c.unlight.new.records in
-    let size : length ws ≡ vec_len was = c.unlight.auto.records ∙ c.deref-mut.ensures.len in
+    let size : length ws ≡ vec_len was = c.unlight.auto.records ∙ c.deref_mut.ensures.len in
     let is : vec_items (with_items was ws) ≡ ws = with_items_is was ws size in
     record { focus = fun_ext (λ x. ap (λ (l : List Record). lit l x) is ∙ c.unlight.ensures x); same = refl }

@@ -22,7 +22,7 @@ returns c =
     let s = c.args.source in
     let was = o.records in
     let ws = c.run.new.records in
-    let size : length ws ≡ vec_len was = c.run.auto.records ∙ c.as-mut-slice.ensures.len in
+    let size : length ws ≡ vec_len was = c.run.auto.records ∙ c.as_mut_slice.ensures.len in
     let is : vec_items (with_items was ws) ≡ ws = with_items_is was ws size in
     let few : places_of f ≤ vec_len was = enough_records (places_of f) (length (rows_of f)) (vec_len was) (capacity o.queue) c.requires.ready in
     record {
@@ -33,5 +33,5 @@ returns c =
       long = omega (arith, o.sized);
       frame = refl;
       meaning = ap (plain_meaning (places_of f) (rows_of f) (vec_len was)) c.run.ensures.room;
-      focus = fun_ext (λ x. ap (λ (l : List Record). lit l x) is ∙ c.run.ensures.focus x ∙ ap (λ (l : List Record). lit l x) c.as-mut-slice.ensures.value);
+      focus = fun_ext (λ x. ap (λ (l : List Record). lit l x) is ∙ c.run.ensures.focus x ∙ ap (λ (l : List Record). lit l x) c.as_mut_slice.ensures.value);
     }

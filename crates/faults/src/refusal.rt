@@ -1,6 +1,6 @@
 // A fault of any layer, by what a user reads of it.
 ghost use Rattle.std.specs.Prelude.{◌≡◌, ℕ};
-ghost use Rattle.fault.specs.declared.layer.Layer.{Layer};
+ghost use Rattle.faults.specs.declared.layer.Layer.{Layer};
 
 use crate::layer::Layer;
 
