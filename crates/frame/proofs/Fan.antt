@@ -1,7 +1,11 @@
 -- What closing makes of the arcs: sorted, they are still those of the ducts. Assumes nothing.
 use Rattle.std.proofs.Common.{◌≡◌, ℕ, zero, suc, ◌+◌, ◌<◌, ◌≤◌, ◌⊎◌, List, [], ◌∷◌, ◌++◌, length, get_or, sum_by, sym, refl, ap, ◌∙◌, subst, inl, inr, arith, length-append}
 use native.Mathlib.Decide.{ℕ_discrete, dec_le}
-use Rattle.std.specs.List.Sorted.{IsNonDecreasingBy, IsPermutation}
+use Rattle.std.specs.List.Sorted.{IsNonDecreasingBy, IsPermutation, IsSorted}
+use Rattle.std.specs.Ordering.{is_lt, nat_cmp, ordering_then}
+use Rattle.std.proofs.lemmas.List.Sorted.{IsNonDecreasingBy-from_all_adjacent}
+use Rattle.std.proofs.lemmas.Bool.{ltb-false, eqb-false}
+use Rattle.std.proofs.Common.{Ordering, Less, Equal, Greater, Bool, true, false, cond, nat_lt, ◌==◌, eqb-true}
 use Rattle.std.specs.List.{AllByRecursion as All}
 use Rattle.std.proofs.ByRecursion.{All-get_or, All-from_get_or, all_shuffled}
 use Rattle.std.proofs.lemmas.List.{append_assoc, get_or_at}
@@ -23,6 +27,16 @@ small : (n k : ℕ) (ds : List Row) → n ≤ 4096 → Lawful n ds → k + lengt
 small n k [] few l h = tt
 small n k (d ∷ ds) few l h =
     ((omega (arith, l.0.second_in), omega arith), ((omega (arith, l.0.first_in), omega arith), small n (k + 1) ds few l.1 (omega arith)))
+
+-- and so they are in any order
+all_small : (n : ℕ) (ds : List Row) (xs arcs : List Arc) → Kept n ds → xs ≡ arcs_from 0 ds → IsPermutation xs arcs → All Small arcs
+all_small n ds xs arcs h is bag =
+    let s = unkept n ds h in
+    all_shuffled Small xs arcs bag (subst (All Small) (sym is) (small n 0 ds s.few s.lawful (omega (arith, s.few_ducts))))
+
+-- how arcs compare: by where they begin, then where they end, then their duct, then its length
+abbrev by_parts : Arc → Arc → Ordering
+by_parts x y = ordering_then (nat_cmp x.from y.from) (ordering_then (nat_cmp x.to y.to) (ordering_then (nat_cmp x.duct y.duct) (nat_cmp x.length y.length)))
 
 at_number : (ds : List Row) (k : ℕ) (d : Row) (u w : ℕ) → k < length ds → row_at ds k ≡ d → ((d.first ≡ u) × (d.second ≡ w)) ⊎ ((d.first ≡ w) × (d.second ≡ u)) → (k < length ds) × Joins (row_at ds k) u w d.length
 at_number ds k d u w l e s = (l, subst (λ (x : Row). Joins x u w d.length) (sym e) (refl, s))
@@ -47,11 +61,36 @@ joined_arcs k (d ∷ ds) v w len (inl (e, inl p)) h = h.0 p.0 p.1 e
 joined_arcs k (d ∷ ds) v w len (inl (e, inr p)) h = h.1.0 p.1 p.0 e
 joined_arcs k (d ∷ ds) v w len (inr j) h = joined_arcs (k + 1) ds v w len j h.1.1
 
+-- an arc that comes no earlier by one number has the greater one, or the same and comes no earlier by the rest
+later : (a b : ℕ) (r : Ordering) → is_lt (ordering_then (nat_cmp a b) r) ≡ false → (b < a) ⊎ ((a ≡ b) × (is_lt r ≡ false))
+later a b r h = go (nat_lt a b) (a == b) refl refl h
+  where
+    go : (p q : Bool) → nat_lt a b ≡ p → (a == b) ≡ q → is_lt (ordering_then (cond p Less (cond q Equal Greater)) r) ≡ false → (b < a) ⊎ ((a ≡ b) × (is_lt r ≡ false))
+    go true q e f k = cc
+    go false true e f k = inr (eqb-true a b f, k)
+    go false false e f k = inl (omega (arith, ltb-false a b e, eqb-false a b f))
+
+-- so small arcs that are sorted by their fields are sorted by their key
+by_fields : (x y : Arc) → Small x → Small y → is_lt (by_parts x y) ≡ false → key y ≤ key x
+by_fields x y p q h =
+    elim (later x.from y.from _ h) [
+      inl a ↦ omega arith
+      | inr a ↦ elim (later x.to y.to _ a.1) [
+          inl b ↦ omega arith
+          | inr b ↦ elim (later x.duct y.duct _ b.1) [ inl d ↦ omega arith | inr d ↦ omega arith ]
+        ]
+    ]
+
+-- the arcs of a frame, sorted as arcs are, are sorted by their key
+pub by_key : (n : ℕ) (ds : List Row) (xs arcs : List Arc) → Kept n ds → xs ≡ arcs_from 0 ds → IsPermutation xs arcs → IsSorted by_parts arcs → IsNonDecreasingBy key arcs
+by_key n ds xs arcs h is bag up =
+    let all = all_small n ds xs arcs h is bag in
+    IsNonDecreasingBy-from_all_adjacent key arcs (λ k d lt. by_fields (get_or arcs (k + 1) d) (get_or arcs k d) (All-get_or Small arcs (k + 1) d lt all) (All-get_or Small arcs k d (omega arith) all) (up k d (omega arith) lt))
+
 -- sorted by their key, arcs are sorted by where they begin
 pub rises_from : (n : ℕ) (ds : List Row) (xs arcs : List Arc) → Kept n ds → xs ≡ arcs_from 0 ds → IsPermutation xs arcs → IsNonDecreasingBy key arcs → IsNonDecreasingBy (λ (a : Arc). a.from) arcs
 rises_from n ds xs arcs h is bag up =
-    let s = unkept n ds h in
-    let all : All Small arcs = all_shuffled Small xs arcs bag (subst (All Small) (sym is) (small n 0 ds s.few s.lawful (omega (arith, s.few_ducts)))) in
+    let all = all_small n ds xs arcs h is bag in
     λ i j d le lt. omega (arith, up i j d le lt, All-get_or Small arcs j d lt all)
 
 -- what closing has made

@@ -100,7 +100,7 @@ impl OpenFrame {
             mut offsets,
             mut arcs,
         } = self;
-        arcs.sort();
+        arcs.sort_unstable();
         lay(&arcs, &mut offsets);
         ClosedFrame {
             places,

@@ -3,7 +3,7 @@ use Rattle.std.proofs.lemmas.List.{length-set, length_push}
 use Rattle.lines.specs.Said.{capped, shorts}
 use Rattle.lines.proofs.Lists.{store, pass, shorts_yes, shorts_no}
 use Rattle.lines.proofs.list.longer.Goals as goal
-use Rattle.lines.proofs.list.longer.Goals.{then-count-lt17, else-count-lt17, then-short-count+then-n-lt-TOO-LONG, else-short-count, else-short-count-via-then-short-count+else-n-lt-TOO-LONG, else-short-count-via-else-short-count}
+use Rattle.lines.proofs.list.longer.Goals.{then-count-lt17, else-count-lt17, then-short-count+then-n-lt-TOO_LONG, else-short-count, else-short-count-via-then-short-count+else-n-lt-TOO_LONG, else-short-count-via-else-short-count}
 
 pub returns : goal.returns
 returns c ns v l e =
@@ -30,11 +30,11 @@ returns c ns v l e =
             cc
       ];
       short = elim c.if-short-count.branch [
-        | then-short-count+then-n-lt-TOO-LONG x ↦
-            omega (arith, x.short-is, x.if-short-count.true, shorts_yes ns v (omega (arith, x.if-short-count.true)) (omega (arith, x.if-n-lt-TOO-LONG.true)))
+        | then-short-count+then-n-lt-TOO_LONG x ↦
+            omega (arith, x.short-is, x.if-short-count.true, shorts_yes ns v (omega (arith, x.if-short-count.true)) (omega (arith, x.if-n-lt-TOO_LONG.true)))
         | else-short-count x ↦
             elim x.else-short-count.branch [
-              | else-short-count-via-then-short-count+else-n-lt-TOO-LONG y ↦ omega (arith, x.short-is, shorts_no ns v (λ a b. omega (arith, y.if-n-lt-TOO-LONG.false)))
+              | else-short-count-via-then-short-count+else-n-lt-TOO_LONG y ↦ omega (arith, x.short-is, shorts_no ns v (λ a b. omega (arith, y.if-n-lt-TOO_LONG.false)))
               | else-short-count-via-else-short-count y ↦ omega (arith, x.short-is, shorts_no ns v (λ a b. y.if-short-count.false (omega arith)))
             ]
       ];

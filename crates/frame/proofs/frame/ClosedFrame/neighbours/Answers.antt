@@ -15,7 +15,7 @@ returns-then-place-self c =
     no_neighbours s.places (vec_items s.rows) c.args.place (closed_lawful s) (omega arith)
 
 -- where the arcs of the place stand
-known : (c : After-as-slice) → Span (vec_items c.args.self.now.offsets) (vec_items c.args.self.now.arcs) c.args.place c.index-start.result.now c.index-end.result.now
+known : (c : After-as_slice) → Span (vec_items c.args.self.now.offsets) (vec_items c.args.self.now.arcs) c.args.place c.index-start.result.now c.index-end.result.now
 known c =
     let s = c.args.self.now in
     let offs = vec_items s.offsets in
@@ -27,8 +27,8 @@ known c =
     let b : c.index-end.result.now ≡ from_at offs (c.args.place + 1) = search (rules, get_or_read) in
     span _ _ _ _ f c.args.place in' _ _ a b
 
-pub offset-bounds-as_slice-start : goal.offset-bounds-as_slice-start
-offset-bounds-as_slice-start c = let s = known c in omega (arith, s.rises, s.fits, s.few)
+pub offset_bounds-as_slice-start : goal.offset_bounds-as_slice-start
+offset_bounds-as_slice-start c = let s = known c in omega (arith, s.rises, s.fits, s.few)
 
 pub slice_bounds-result-count : goal.slice_bounds-result-count
 slice_bounds-result-count c = (known c).rises
@@ -38,7 +38,7 @@ slice_bounds-result-start c = (known c).rises
 
 pub slice_bounds-result-end-2 : goal.slice_bounds-result-end-2
 slice_bounds-result-end-2 c =
-    let h : c.index-end.result.now ≤ length c.as_slice.result.now = omega (arith, (known c).ranges, ap length c.as_slice.ensures.value) in
+    let h : c.index-end.result.now ≤ length c.as_slice.result.now = omega (arith, (known c).fits, ap length c.as_slice.ensures.value) in
     h
 
 pub returns : goal.returns

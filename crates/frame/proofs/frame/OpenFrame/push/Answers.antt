@@ -23,16 +23,11 @@ invariant_of-self c =
     let t : Taken s.places s.room rows c.args.row = taken _ _ _ _ c.requires in
     let more = c.push_reserved.ensures in
     let first = c.push_reserved-2.ensures in
-    let second = c.push_reserved-3.ensures in (
-      λ k. s.sound (λ h. k (subst (Sound s.places) (sym more.items) (sound_push s.places s.room rows c.args.row s.limits.0 t h))),
-      (
-        both_push rows _ _ _ _ c.args.row _ s.both first.items second.items more.items (c.len-duct.ensures ∙ s.rows.ok.0),
-        (
-          s.count,
-          (
-            (s.limits.0, omega (arith, more.len, s.rows.ok.0, t.fits)),
-            ((omega (arith, more.capacity, s.memory), omega (arith, first.capacity, second.capacity, s.memory)), tt),
-          ),
-        ),
-      ),
-    )
+    let second = c.push_reserved-3.ensures in
+    record {
+      sound = λ k. s.sound (λ h. k (subst (Sound s.places) (sym more.items) (sound_push s.places s.room rows c.args.row s.limits.0 t h)));
+      both = both_push rows _ _ _ _ c.args.row _ s.both first.items second.items more.items (c.len-duct.ensures ∙ s.rows.ok.0);
+      count = s.count;
+      limits = (s.limits.0, omega (arith, more.len, s.rows.ok.0, t.fits));
+      memory = (omega (arith, more.capacity, s.memory), omega (arith, first.capacity, second.capacity, s.memory));
+    }
