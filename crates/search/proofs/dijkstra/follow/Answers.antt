@@ -8,7 +8,7 @@ use Rattle.search.proofs.Steps.{stepped}
 use Rattle.search.proofs.dijkstra.follow.Goals as goal
 
 -- the arc of this turn
-at : (c : goal.After-relax-arg-in-loop-arc·1) → Met (places_of c.args.frame.now) (rows_of c.args.frame.now) c.neighbours-arc-items.result.now c.args.place c.loop-arc.arc-index (arc_at c.neighbours-arc-items.result.now c.loop-arc.arc-index)
+at : (c : goal.After-relax-arg-in-loop-arc-1) → Met (places_of c.args.frame.now) (rows_of c.args.frame.now) c.neighbours-arc-items.result.now c.args.place c.loop-arc.arc-index (arc_at c.neighbours-arc-items.result.now c.loop-arc.arc-index)
 at c = met _ _ _ c.args.place c.loop-arc.arc-index _ (closed_lawful c.args.frame.now) c.neighbours-arc-items.ensures c.loop-arc-test.true refl
 
 pub overflow_add-distance : goal.overflow_add-distance

@@ -26,8 +26,8 @@ loop-entry-init c =
       λ v. refl,
     )
 
-pub slice-copy-out·record : goal.slice-copy-out·record
-slice-copy-out·record c =
+pub slice_copy_out-record : goal.slice_copy_out-record
+slice_copy_out-record c =
     let f = c.args.frame.now in
     let told = c.in-Some.ensures in
     let size = c.loop-entry.auto.records ∙ c.begin.auto.records ∙ c.requires.records in
