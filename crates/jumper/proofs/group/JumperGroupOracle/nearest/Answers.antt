@@ -20,7 +20,7 @@ pub seen_from-requires : goal.seen_from-requires
 seen_from-requires g c =
     let j = c.args.self.now in
     let l = lawful_duct (g.O.DistanceOracle.meaning j.below).count j.a j.b j.length (sym c.if-not-takes.ensures) in
-    record { a-within = l.first_in; b-within = l.second_in }
+    record { a_within = l.first_in; b_within = l.second_in }
 
 pub returns-in_err-seen : goal.returns-in_err-seen
 returns-in_err-seen g c =

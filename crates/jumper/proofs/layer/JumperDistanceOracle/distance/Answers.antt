@@ -18,7 +18,7 @@ pub sums_of-requires : goal.sums_of-requires
 sums_of-requires g c =
     let j = c.args.self.now in
     let l = lawful_duct (g.O.DistanceOracle.meaning j.below).count j.a j.b j.length (sym c.if-not-takes.ensures) in
-    record { a-within = l.first_in; b-within = l.second_in }
+    record { a_within = l.first_in; b_within = l.second_in }
 
 pub returns-in_err-sums : goal.returns-in_err-sums
 returns-in_err-sums g c =
