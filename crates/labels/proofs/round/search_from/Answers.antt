@@ -58,8 +58,8 @@ loop-popped-init c =
           (subst (λ (ys : List Entry). Laid (c.args.rank + 1) c.lay.new.records ys (length ys)) row c.lay.ensures.laid) c.requires.fits c.requires.behind b.bag b.one (omega (arith, b.room, c.requires.room))),
     )
 
-pub slice-copy-out·is_settled : goal.slice-copy-out·is_settled
-slice-copy-out·is_settled c =
+pub slice_copy_out-is_settled : goal.slice_copy_out-is_settled
+slice_copy_out-is_settled c =
     let n = places_of c.args.frame.now in
     let ds = rows_of c.args.frame.now in
     let row : ℕ → List Entry = row_in c.args.width c.args.counts.now c.args.entries.now in
