@@ -8,7 +8,7 @@ returns-in-Some g c =
     record {
       value = focus_near (g.O.DistanceOracle.meaning o) (g.met.O.DistanceOracle.sound o) (g.O.GroupOracle.focused o) c.args.v c.requires c.in-Some.near v.value;
       same = v.same;
-      same-focus = v.same_focus;
+      same_focus = v.same_focus;
     }
 
 pub returns-in-None : goal.returns-in-None
@@ -18,5 +18,5 @@ returns-in-None g c =
     record {
       value = focus_none (g.O.DistanceOracle.meaning o) (g.met.O.DistanceOracle.sound o) (g.O.GroupOracle.focused o) c.args.v c.requires v.value;
       same = v.same;
-      same-focus = v.same_focus;
+      same_focus = v.same_focus;
     }

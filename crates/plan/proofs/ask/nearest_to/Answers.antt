@@ -6,5 +6,5 @@ returns-in-Ok g c =
     record {
       value = v.value.1;
       same = g.met.O.DistanceOracle.kept_meaning c.args.o.now c.nearest.new.self v.kept;
-      same-focus = g.met.O.GroupOracle.kept_focus c.args.o.now c.nearest.new.self v.kept;
+      same_focus = g.met.O.GroupOracle.kept_focus c.args.o.now c.nearest.new.self v.kept;
     }

@@ -15,5 +15,5 @@ returns g c =
       place = p.0;
       length = p.1;
       same = g.met.O.DistanceOracle.kept_meaning c.args.o.now c.step.new.self v.kept;
-      same-focus = g.met.O.GroupOracle.kept_focus c.args.o.now c.step.new.self v.kept;
+      same_focus = g.met.O.GroupOracle.kept_focus c.args.o.now c.step.new.self v.kept;
     }

@@ -23,7 +23,7 @@ onward-place-requires g c =
     let said = c.in-Some.ensures in
     let w = begins base (moved said.same said.same_focus c.loop-branch.invariant) (next_moved said.same said.same_focus said.value) in
     let p = c.loop-place.invariant.0 in
-    record { from-within = at_within w p; to_within = to_within w p; on_way = on_way w p c.loop-place.invariant.1 }
+    record { from_within = at_within w p; to_within = to_within w p; on_way = on_way w p c.loop-place.invariant.1 }
 
 pub overflow_add-ducts : goal.overflow_add-ducts
 overflow_add-ducts g c =

@@ -19,7 +19,7 @@ returns-then-near-eq0 g c =
     record {
       value = sym e ∙ eq-eqb c.in-Some.near.distance 0 c.if-near-eq0.true;
       same = v.same;
-      same-focus = v.same_focus;
+      same_focus = v.same_focus;
     }
 
 pub returns : goal.returns
@@ -30,5 +30,5 @@ returns g c =
     record {
       value = (refl, sym e ∙ ne_eqb c.in-Some.near.distance 0 c.if-near-eq0.false, v.value);
       same = v.same;
-      same-focus = v.same_focus;
+      same_focus = v.same_focus;
     }

@@ -42,5 +42,5 @@ pub returns : goal.returns
 returns g c = record {
   value = subst (λ (ys : List ℕ). NextOf (g.O.DistanceOracle.meaning c.args.o.now) (g.O.GroupOracle.focused c.args.o.now) ys c.loop-c.best) (take_all c.loop-c.c-index c.args.chosen.now c.loop-c-test.false) c.loop-c.invariant.0;
   same = c.loop-c.invariant.1;
-  same-focus = c.loop-c.invariant.2;
+  same_focus = c.loop-c.invariant.2;
 }

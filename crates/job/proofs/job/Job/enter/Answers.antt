@@ -12,7 +12,7 @@ invariant_of-self c =
     let x = c.gathered.result in
     let n = job.heading.places in
     let room : g < length job.fittings = search rules in
-    (entered_sound n job.heading.standing c.turned-self.result job.fittings g x room c.turned-self.ensures (ap (lawful n) c.gathered.ensures ∙ c.requires.lawful) job.sound, tt)
+    record { sound = entered_sound n job.heading.standing c.turned-self.result job.fittings g x room c.turned-self.ensures (ap (lawful n) c.gathered.ensures ∙ c.requires.lawful) job.sound }
 
 pub returns : goal.returns
 returns c =
