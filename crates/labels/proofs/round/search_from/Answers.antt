@@ -94,8 +94,8 @@ visit-requires c =
       room = omega (arith, told.room, c.loop-popped.invariant.1, room_now n ds c.args.order.now c.args.width c.args.rank row (capacity c.begin.new.queue) c.loop-popped.counts c.loop-popped.entries c.loop-popped.records (entries c.loop-popped.queue) (entries c.pop.new.self) c.in-Some.popped c.loop-popped.invariant.2 c.requires.ready (closed_few c.args.frame.now) size told.bag.shuffled (told.bag.first c.loop-popped.invariant.0) told.bag.shorter waiting arcs nb);
     }
 
-pub loop-popped-smaller-in-Continue· : goal.loop-popped-smaller-in-Continue·
-loop-popped-smaller-in-Continue· c =
+pub loop-popped-smaller-in-Continue-1 : goal.loop-popped-smaller-in-Continue-1
+loop-popped-smaller-in-Continue-1 c =
     let n = places_of c.args.frame.now in
     let ds = rows_of c.args.frame.now in
     let row : ℕ → List Entry = row_in c.args.width c.args.counts.now c.args.entries.now in
@@ -111,8 +111,8 @@ loop-popped-smaller-in-Continue· c =
     (subst (λ (m : ℕ). Visiting m ds c.args.order.now c.args.width c.args.rank row c.in-Some.popped arcs c.loop-popped.counts c.loop-popped.entries c.loop-popped.records (entries c.loop-popped.queue) (entries c.pop.new.self)) (sym eq) (visiting n ds c.args.order.now c.args.width c.args.rank row (capacity c.begin.new.queue) c.loop-popped.counts c.loop-popped.entries c.loop-popped.records (entries c.loop-popped.queue) (entries c.pop.new.self) c.in-Some.popped c.loop-popped.invariant.2 c.requires.ready (closed_few c.args.frame.now) size told.bag.shuffled (told.bag.first c.loop-popped.invariant.0) told.bag.shorter waiting arcs nb))) in
     sweep_less n ds c.args.order.now c.args.width c.args.rank row (capacity c.begin.new.queue) c.loop-popped.counts c.loop-popped.entries c.loop-popped.records (entries c.loop-popped.queue) (entries c.pop.new.self) c.in-Some.popped c.loop-popped.invariant.2 c.requires.ready (closed_few c.args.frame.now) size told.bag.shuffled (told.bag.first c.loop-popped.invariant.0) told.bag.shorter waiting arcs nb c.visit.new.counts c.visit.new.entries c.visit.new.records (entries c.visit.new.queue) v.0 v.1 v.2 c.visit.ensures.longer
 
-pub loop-popped-preserved-in-Continue· : goal.loop-popped-preserved-in-Continue·
-loop-popped-preserved-in-Continue· c =
+pub loop-popped-preserved-in-Continue-1 : goal.loop-popped-preserved-in-Continue-1
+loop-popped-preserved-in-Continue-1 c =
     let n = places_of c.args.frame.now in
     let ds = rows_of c.args.frame.now in
     let row : ℕ → List Entry = row_in c.args.width c.args.counts.now c.args.entries.now in

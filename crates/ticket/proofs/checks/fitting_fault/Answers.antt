@@ -6,8 +6,8 @@ use Rattle.ticket.specs.Steps.{State}
 use Rattle.ticket.proofs.Moves.{yes_refused, not_refused, well_placed}
 use Rattle.ticket.proofs.checks.fitting_fault.Goals as goal
 
-pub returns-then-number-ge-TOO-LONG : goal.returns-then-number-ge-TOO-LONG
-returns-then-number-ge-TOO-LONG c = record {
+pub returns-then-number-ge-TOO_LONG : goal.returns-then-number-ge-TOO_LONG
+returns-then-number-ge-TOO_LONG c = record {
   fine = tt;
   finds = λ f k ps a b l t o.
       well_placed c.args.at c.args.left c.args.least f k ps o _ (omega arith) (omega (arith, l.counted, l.few)) (omega arith)
