@@ -10,8 +10,8 @@ use Rattle.day.specs.Run.{Right}
 use Rattle.day.proofs.Joins.{made_none, focus_right}
 use Rattle.day.proofs.running.answered.Goals as goal
 
-pub returns-in_err-kept : goal.returns-in_err-kept
-returns-in_err-kept g c =
+pub returns-in_err-kept-in-Plan : goal.returns-in_err-kept-in-Plan
+returns-in_err-kept-in-Plan g c =
     let m : Meaning = g.O.DistanceOracle.meaning c.args.oracle.now in
     let job = c.args.job.now in
     record {
@@ -20,13 +20,13 @@ returns-in_err-kept g c =
       same = c.plan_job-planned.ensures.same;
     }
 
-pub returns-in_ok-kept : goal.returns-in_ok-kept
-returns-in_ok-kept g c =
+pub returns-in_ok-kept-in-Plan : goal.returns-in_ok-kept-in-Plan
+returns-in_ok-kept-in-Plan g c =
     let m : Meaning = g.O.DistanceOracle.meaning c.args.oracle.now in
     let job = c.args.job.now in
     record {
-      right = λ calls a. subst (λ (k : Call). Right m (length c.args.trunk.now) calls (said k) (Planned c.in_ok-kept.field-0)) (sym c.in-Plan.is)
-          (c.in_ok-kept.ensures m m.count (groups_by m.count calls) c.args.trunk.now (c.plan_job-planned.ensures.day m.count calls a));
+      right = λ calls a. subst (λ (k : Call). Right m (length c.args.trunk.now) calls (said k) (Planned c.in_ok-kept-in-Plan.field-0)) (sym c.in-Plan.is)
+          (c.in_ok-kept-in-Plan.ensures m m.count (groups_by m.count calls) c.args.trunk.now (c.plan_job-planned.ensures.day m.count calls a));
       agrees = λ calls a. subst (λ (k : Call). Agrees m.count (calls ++ said k ∷ []) job) (sym c.in-Plan.is) (agrees_still m.count calls job plans refl a);
       same = c.plan_job-planned.ensures.same;
     }
