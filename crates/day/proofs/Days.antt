@@ -1,5 +1,5 @@
 -- The answers to a day's calls, one after the other. Assumes nothing.
-use Rattle.std.proofs.Common.{◌≡◌, ℕ, ◌+◌, ◌<◌, List, [], ◌∷◌, ◌++◌, map, length, get_or, take, sym, refl, ap, ◌∙◌, subst, arith, below_more}
+use Rattle.std.proofs.Common.{◌≡◌, ℕ, ◌+◌, ◌<◌, List, [], ◌∷◌, ◌++◌, map, length, get_or, take, sym, ap, ◌∙◌, subst, arith, below_more}
 use Rattle.std.proofs.lemmas.List.{length-map, get_or-map, take_more, get_or_append_left, get_or_push}
 use Rattle.oracle.specs.Meaning.{Meaning}
 use Rattle.job.specs.declared.call.Call.{Call}

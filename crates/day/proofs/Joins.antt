@@ -1,5 +1,5 @@
 -- How a job's fittings become a plan's groups, and what follows. Assumes nothing.
-use Rattle.std.proofs.Common.{◌≡◌, ℕ, ◌+◌, ◌-◌, ◌*◌, ◌<◌, ◌≤◌, min, Bool, true, false, ltb, List, [], ◌∷◌, ◌++◌, map, length, take, drop, is_err, IfOk, Some, None, Ok, Err, vec_items, Option, Result, sym, refl, ap, ◌∙◌, subst, arith, lt-ltb}
+use Rattle.std.proofs.Common.{◌≡◌, ℕ, ◌-◌, ◌*◌, ◌≤◌, min, Bool, true, false, List, [], ◌∷◌, ◌++◌, map, length, take, drop, is_err, IfOk, Some, None, Ok, Err, vec_items, Option, Result, sym, refl, ap, ◌∙◌, subst, arith, lt-ltb}
 use mathlib.Core.Path.{transport}
 use Rattle.std.proofs.lemmas.List.{length-append, take_at}
 use Rattle.std.specs.List.{AllByRecursion as All}
@@ -21,11 +21,11 @@ use Rattle.plan.specs.Plans as plan
 use Rattle.plan.specs.Plans.{or_else, outside, outside_groups, FewGroups, Unplanned, Planned, Joining, Steps}
 use Rattle.plan.specs.declared.trunk.Trunk.{Trunk}
 use Rattle.plan.specs.Trunks.{Tells}
-use Rattle.trees.specs.Connected.{weight, Net, Tree, TouchesAll}
+use Rattle.trees.specs.Connected.{weight, Tree, TouchesAll}
 use Rattle.trees.specs.Growth.{net}
 use Rattle.day.specs.declared.answer.Laid.{Laid}
 use Rattle.day.specs.Law.{refusal, Ready, Refused, FocusAfter}
-use Rattle.day.specs.Run.{TrunkLaw, PlanLaw, FocusLaw}
+use Rattle.day.specs.Run.{PlanLaw, FocusLaw}
 
 -- one group more
 pub lists_push : (gs : List Group) (g : Group) → lists (gs ++ g ∷ []) ≡ lists gs ++ members g ∷ []

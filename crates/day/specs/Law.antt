@@ -1,5 +1,5 @@
 -- The law of planning: what a plan answers over an oracle, for the fittings that stand. Assumes nothing.
-use Rattle.std.specs.Prelude.{◌≡◌, ℕ, ◌-◌, ◌*◌, ◌<◌, ◌≤◌, Bool, List, [], length, Ok, Err, Result, ◌≢◌}
+use Rattle.std.specs.Prelude.{◌≡◌, ℕ, ◌-◌, ◌<◌, ◌≤◌, Bool, List, [], length, Ok, Err, Result, ◌≢◌}
 use Rattle.ways.specs.declared.row.Row.{Row}
 use Rattle.ways.specs.Nearest.{no_place}
 use Rattle.oracle.specs.Meaning.{Meaning}

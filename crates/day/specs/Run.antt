@@ -1,6 +1,5 @@
 -- The law over a day: what is true of the answers to a list of calls over one oracle. Assumes nothing.
-use Rattle.std.specs.Prelude.{◌≡◌, ℕ, ◌-◌, ◌*◌, ◌<◌, ◌≤◌, List, [], length, take, Ok, Err, vec_items, Result, slice_index_or}
-use Rattle.ways.specs.declared.row.Row.{Row}
+use Rattle.std.specs.Prelude.{◌≡◌, ℕ, ◌-◌, ◌*◌, ◌<◌, ◌≤◌, List, length, take, Ok, Err, vec_items, Result, slice_index_or}
 use Rattle.oracle.specs.declared.fault.OracleFault.{OracleFault}
 use Rattle.oracle.specs.declared.fault.OracleFault.TheVariants.{NoPlace}
 use Rattle.oracle.specs.Meaning.{Meaning}

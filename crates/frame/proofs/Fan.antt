@@ -74,11 +74,11 @@ later a b r h = go (nat_lt a b) (a == b) refl refl h
 by_fields : (x y : Arc) → Small x → Small y → is_lt (by_parts x y) ≡ false → key y ≤ key x
 by_fields x y p q h =
     elim (later x.from y.from _ h) [
-      inl a ↦ omega arith
+      | inl a ↦ omega arith
       | inr a ↦ elim (later x.to y.to _ a.1) [
-          inl b ↦ omega arith
-          | inr b ↦ elim (later x.duct y.duct _ b.1) [ inl d ↦ omega arith | inr d ↦ omega arith ]
-        ]
+        | inl b ↦ omega arith
+        | inr b ↦ elim (later x.duct y.duct _ b.1) [ inl d ↦ omega arith | inr d ↦ omega arith ]
+      ]
     ]
 
 -- the arcs of a frame, sorted as arcs are, are sorted by their key

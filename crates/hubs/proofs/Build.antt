@@ -1,6 +1,6 @@
 -- How exact rows are built, rank by rank. Assumes nothing.
-use Rattle.std.proofs.Common.{◌≡◌, ℕ, zero, suc, ◌+◌, ◌<◌, ◌≤◌, ◌⊎◌, List, [], ◌∷◌, ◌++◌, Some, None, Option, sym, refl, ap, ◌∙◌, subst, inl, inr, arith}
-use native.Mathlib.Decide.{ℕ_discrete, dec_lt}
+use Rattle.std.proofs.Common.{◌≡◌, ℕ, suc, ◌+◌, ◌<◌, ◌≤◌, ◌⊎◌, List, [], ◌∷◌, ◌++◌, Some, sym, refl, ap, ◌∙◌, subst, inl, inr, arith}
+use native.Mathlib.Decide.{ℕ_discrete}
 use Rattle.ways.specs.declared.row.Row.{Row}
 use Rattle.ways.specs.Places.{Order}
 use Rattle.ways.specs.Way.{Hop, Joined, Leads, total, Lawful}

@@ -1,5 +1,5 @@
 -- How long the labels are. Assumes nothing.
-use Rattle.std.proofs.Common.{◌≡◌, ℕ, ◌+◌, ◌<◌, ◌≤◌, ◌⊎◌, List, [], ◌∷◌, ◌++◌, length, sym, refl, ap, subst, inl, inr, arith, length-append}
+use Rattle.std.proofs.Common.{◌≡◌, ℕ, ◌<◌, ◌≤◌, ◌⊎◌, List, [], ◌∷◌, ◌++◌, length, sym, refl, ap, subst, inl, inr, arith, length-append}
 use native.Mathlib.Decide.{dec_lt}
 use Rattle.ways.specs.declared.row.Row.{Row}
 use Rattle.hubs.specs.Labels.{Hub, Entry, In, Has, Rising, Table, Exact, ExactBelow}

@@ -1,5 +1,5 @@
 -- The nearest focused place, by a record for each hub. Assumes nothing.
-use Rattle.std.proofs.Common.{◌≡◌, ℕ, zero, suc, ◌+◌, ◌<◌, ◌≤◌, Bool, true, false, eqb, ltb, leb, ◌⊎◌, List, [], ◌∷◌, Some, None, Option, sym, refl, ap, ◌∙◌, subst, inl, inr, arith, ltb-false, ltb-true, eq-eqb, ne_eqb, eqb-true, leb-false, leb-true}
+use Rattle.std.proofs.Common.{◌≡◌, ℕ, ◌+◌, ◌<◌, ◌≤◌, Bool, true, false, eqb, ltb, leb, ◌⊎◌, List, [], ◌∷◌, Some, None, Option, sym, refl, ap, ◌∙◌, subst, inl, inr, arith, ltb-false, ltb-true, eq-eqb, ne_eqb, eqb-true, leb-false, leb-true}
 use native.Mathlib.Decide.{ℕ_discrete}
 use borrow.Author.Tests.{eqb-false}
 use Rattle.ways.specs.declared.row.Row.{Row}
@@ -10,7 +10,7 @@ use Rattle.ways.specs.Distance.{distance}
 use Rattle.ways.specs.Nearest.{Nearest, Later, no_place, with_place}
 use Rattle.ways.proofs.Metric.{same, not_both}
 use Rattle.hubs.specs.Labels.{Entry, In, Rising, Shared, Table, Right}
-use Rattle.hubs.specs.Records.{Before, Held, IsRecord, before, sooner, seen, folded, distance_of, placed}
+use Rattle.hubs.specs.Records.{Before, Held, IsRecord, sooner, seen, folded, distance_of, placed}
 use Rattle.hubs.specs.Theorems.{RightNearest}
 use Rattle.hubs.proofs.Merging.{above_in}
 use Rattle.hubs.proofs.Tables.{shared_sum}

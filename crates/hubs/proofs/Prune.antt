@@ -1,12 +1,12 @@
 -- The pruning step. Assumes nothing.
-use Rattle.std.proofs.Common.{◌≡◌, ℕ, ◌+◌, ◌<◌, ◌≤◌, ◌⊎◌, List, [], ◌∷◌, Some, None, Option, sym, refl, ap, ◌∙◌, subst, inl, inr, arith}
+use Rattle.std.proofs.Common.{◌≡◌, ℕ, ◌+◌, ◌<◌, ◌⊎◌, List, Some, None, Option, ap, subst, inl, inr, arith}
 use native.Mathlib.Decide.{dec_lt}
 use Rattle.ways.specs.declared.row.Row.{Row}
 use Rattle.ways.specs.Places.{Order}
 use Rattle.ways.specs.Way.{Lawful}
 use Rattle.ways.specs.Distance.{distance}
 use Rattle.ways.proofs.Metric.{same, far_self, far_le, far_back}
-use Rattle.hubs.specs.Labels.{place, Hub, Lowest, Entry, In, Has, Shared, ExactEntry, ExactBelow}
+use Rattle.hubs.specs.Labels.{place, Hub, Lowest, Entry, In, Shared, ExactBelow}
 use Rattle.hubs.specs.Merge.{Meeting, Merged, merge, sum_of, Less}
 use Rattle.hubs.proofs.Hubs.{place_in, cover}
 use Rattle.hubs.proofs.Merging.{merge_finds}

@@ -1,16 +1,15 @@
 -- The way rule by labels. Assumes nothing.
-use Rattle.std.proofs.Common.{◌≡◌, ℕ, zero, suc, ◌+◌, ◌-◌, ◌<◌, ◌≤◌, Bool, true, false, eqb, ◌⊎◌, List, [], ◌∷◌, Some, None, Option, sym, refl, ap, ◌∙◌, subst, inl, inr, arith, eq-eqb, ne_eqb, eqb-true}
-use native.Mathlib.Decide.{ℕ_discrete}
+use Rattle.std.proofs.Common.{◌≡◌, ℕ, zero, suc, ◌+◌, ◌-◌, ◌<◌, ◌≤◌, Bool, true, false, eqb, List, [], ◌∷◌, Some, None, Option, sym, refl, ap, ◌∙◌, subst, inl, inr, arith, eq-eqb, ne_eqb, eqb-true}
 use borrow.Author.Tests.{eqb-false}
 use Rattle.ways.specs.declared.row.Row.{Row}
 use Rattle.ways.specs.Options.{pick}
-use Rattle.ways.specs.Way.{Hop, Joined, Lawful}
+use Rattle.ways.specs.Way.{Joined, Lawful}
 use Rattle.ways.specs.Distance.{distance}
 use Rattle.ways.proofs.Graph.{turn, to_in, some_length}
 use Rattle.ways.proofs.Metric.{same, not_both, far_self, far_sum, far_le, far_back}
-use Rattle.hubs.specs.Labels.{place, Entry, In, Has, Rising, Shared, Onward, Table, RightEntry, Right}
+use Rattle.hubs.specs.Labels.{place, Entry, In, Rising, Table, Right}
 use Rattle.hubs.specs.Merge.{Meeting, Merged, merge, sum_of}
-use Rattle.hubs.specs.Rule.{neighbour_at, distance_at, last_before, hop_over, hop_by, rule_by, Towards}
+use Rattle.hubs.specs.Rule.{neighbour_at, distance_at, last_before, hop_over, hop_by, Towards}
 use Rattle.hubs.specs.Theorems.{RightRule}
 use Rattle.hubs.proofs.Hubs.{place_in}
 use Rattle.hubs.proofs.Merging.{above_in, one_entry, merge_finds}

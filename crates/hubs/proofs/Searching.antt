@@ -1,15 +1,14 @@
 -- The pruned search finds the hubs of its rank. Assumes nothing.
-use Rattle.std.proofs.Common.{◌≡◌, ℕ, zero, suc, ◌+◌, ◌<◌, ◌≤◌, ◌⊎◌, List, [], ◌∷◌, ◌++◌, length, get_or, Some, None, Option, sym, refl, ap, ◌∙◌, subst, inl, inr, arith}
-use native.Mathlib.Decide.{ℕ_discrete}
+use Rattle.std.proofs.Common.{◌≡◌, ℕ, zero, suc, ◌+◌, ◌<◌, ◌≤◌, List, [], ◌∷◌, length, get_or, Some, None, Option, sym, refl, ap, ◌∙◌, subst, inl, inr, arith}
 use Rattle.ways.specs.declared.row.Row.{Row}
 use Rattle.ways.specs.Places.{Off, Apart, Order}
-use Rattle.ways.specs.Way.{Hop, Joined, Leads, total, Lawful}
+use Rattle.ways.specs.Way.{Hop, Leads, total, Lawful}
 use Rattle.ways.specs.Distance.{distance}
 use Rattle.ways.proofs.Graph.{turn, to_in}
 use Rattle.ways.proofs.Metric.{same, not_both, far_self, far_zero, way_of}
-use Rattle.hubs.specs.Labels.{place, Hub, Entry, In, Above, Rising, Table, ExactEntry, Exact, ExactBelow}
+use Rattle.hubs.specs.Labels.{place, Hub, Entry, ExactEntry, ExactBelow}
 use Rattle.hubs.specs.Merge.{Less}
-use Rattle.hubs.specs.Search.{said, Tried, Searched, Back, BackFirst, Written}
+use Rattle.hubs.specs.Search.{said, Tried, Searched, BackFirst, Written}
 use Rattle.hubs.specs.Theorems.{SearchFinds}
 use Rattle.hubs.proofs.Hubs.{place_in}
 use Rattle.hubs.proofs.Build.{Grown, AllHubs, hub_way, onward_hub, below_grows}

@@ -1,12 +1,11 @@
 -- Rows that hold exactly the hubs make a right table, and right tables answer distances. Assumes nothing.
-use Rattle.std.proofs.Common.{◌≡◌, ℕ, ◌+◌, ◌<◌, ◌≤◌, ◌⊎◌, List, [], ◌∷◌, length, Some, None, Option, sym, refl, ap, ◌∙◌, subst, inl, inr, arith}
+use Rattle.std.proofs.Common.{◌≡◌, ℕ, ◌<◌, ◌≤◌, List, Some, None, Option, refl, ap, ◌∙◌, subst, arith}
 use Rattle.ways.specs.declared.row.Row.{Row}
-use Rattle.ways.specs.Places.{Order}
 use Rattle.ways.specs.Way.{Lawful}
 use Rattle.ways.specs.Distance.{distance}
 use Rattle.ways.proofs.Graph.{to_in}
 use Rattle.ways.proofs.Metric.{same, not_both, far_sum, far_le, far_back, far_duct}
-use Rattle.hubs.specs.Labels.{place, Hub, Lowest, Entry, In, Has, Shared, Onward, Table, RightEntry, Right, ExactEntry, Exact}
+use Rattle.hubs.specs.Labels.{place, Hub, Entry, In, Shared, Onward, Table, RightEntry, Right, Exact}
 use Rattle.hubs.specs.Merge.{Meeting, Merged, merge, sum_of}
 use Rattle.hubs.specs.Theorems.{ExactRight, RightAnswers}
 use Rattle.hubs.proofs.Hubs.{place_in, cover, closed}

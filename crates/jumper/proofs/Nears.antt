@@ -12,7 +12,7 @@ use Rattle.jumper.specs.declared.sights.Sight.{Sight}
 use Rattle.oracle.specs.Meaning.{Meaning, Sound, far}
 use Rattle.oracle.specs.Answers.{Focused}
 use Rattle.jumper.specs.Jumped.{duct, crossing, least, with_duct}
-use Rattle.jumper.specs.Crossings.{farther, via, before, sooner, near_of, Finds}
+use Rattle.jumper.specs.Crossings.{farther, via, sooner, near_of, Finds}
 use Rattle.oracle.proofs.Meanings.{far_short}
 use Rattle.jumper.specs.Sounds.{three_sums, with_duct_sound}
 

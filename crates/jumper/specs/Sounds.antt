@@ -5,7 +5,7 @@ use Rattle.std.proofs.lemmas.Bool.{eqb-false}
 use Rattle.ways.specs.declared.row.Row.{Row}
 use Rattle.ways.specs.Options.{pick, within, lesser, through}
 use Rattle.ways.specs.Way.{Hop, Joined, Way, Lawful, LawfulDuct}
-use Rattle.ways.specs.Distance.{Reached, IsDistance, distance}
+use Rattle.ways.specs.Distance.{Reached, IsDistance}
 use Rattle.ways.proofs.Graph.{hop, join, more, reached, at_most, unique, pick_both, to_in}
 use Rattle.ways.proofs.Reaches.{distance_is}
 use Rattle.ways.proofs.Metric.{far_self, way_of}

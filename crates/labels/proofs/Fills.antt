@@ -1,20 +1,19 @@
 -- The rows filled rank by rank. Assumes nothing.
-use Rattle.std.proofs.Common.{◌≡◌, ℕ, zero, suc, ◌+◌, ◌*◌, ◌<◌, ◌≤◌, List, [], ◌∷◌, length, get_or, take, drop, set, sym, refl, ap, ◌∙◌, subst, arith}
-use native.Mathlib.Decide.{dec_le, dec_lt}
+use Rattle.std.proofs.Common.{◌≡◌, ℕ, ◌+◌, ◌*◌, ◌<◌, ◌≤◌, List, [], length, get_or, take, drop, sym, ap, subst, arith}
+use native.Mathlib.Decide.{dec_le}
 use Rattle.std.proofs.lemmas.List.{get_or_past}
 use Rattle.ways.specs.declared.row.Row.{Row}
 use Rattle.ways.specs.Places.{Order}
-use Rattle.ways.specs.Way.{Lawful}
 use Rattle.hubs.specs.declared.entry.Entry.{Entry}
-use Rattle.hubs.specs.Labels.{Table, Exact, ExactBelow}
+use Rattle.hubs.specs.Labels.{ExactBelow}
 use Rattle.hubs.proofs.Build.{below_starts, below_ends}
 use Rattle.hubs.proofs.Lengths.{too_long}
 use Rattle.labels.specs.declared.fault.LabelsFault.{LabelsFault}
 use Rattle.labels.specs.declared.fault.LabelsFault.TheVariants.{TooLong}
 use Rattle.labels.specs.declared.record.Record.{Record}
-use Rattle.labels.specs.Table.{no_entry, count_of, row_in, table_in, Fits, Behind}
+use Rattle.labels.specs.Table.{count_of, row_in, table_in, Fits, Behind}
 use Rattle.labels.specs.State.{Upto}
-use Rattle.labels.specs.Rounds.{Ready, Overfull, Advanced}
+use Rattle.labels.specs.Rounds.{Overfull, Advanced}
 use Rattle.labels.specs.Building.{Built, SomeLonger, Zeroed}
 
 -- what holds of every position that a list has holds of all, where it holds past the end

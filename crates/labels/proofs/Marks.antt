@@ -1,10 +1,9 @@
 -- What the writes of a pruned search leave. Assumes nothing.
-use Rattle.std.proofs.Common.{◌≡◌, ℕ, zero, suc, ◌+◌, ◌<◌, ◌≤◌, Bool, true, false, eqb, ◌⊎◌, List, [], ◌∷◌, length, get_or, set, Some, None, Option, sym, refl, ap, ◌∙◌, subst, inl, inr, arith, get_or-set_other, get_or-set_same, eq-eqb, eqb-true}
+use Rattle.std.proofs.Common.{◌≡◌, ℕ, zero, suc, ◌+◌, ◌<◌, ◌≤◌, Bool, true, false, eqb, List, [], ◌∷◌, length, get_or, set, Some, None, Option, sym, refl, ap, ◌∙◌, subst, inl, inr, arith, get_or-set_other, get_or-set_same, eq-eqb}
 use native.Mathlib.Decide.{ℕ_discrete, dec_le}
 use Rattle.std.specs.List.{AllByRecursion as All}
 use Rattle.std.specs.List.Sorted.{IsPermutation}
 use Rattle.heap.specs.declared.search.SearchEntry.{SearchEntry}
-use Rattle.search.specs.State.{Kept}
 use Rattle.search.proofs.Theory as theory
 use Rattle.frame.specs.declared.arc.Arc.{Arc}
 use Rattle.frame.specs.Fans.{arc_at, no_arc}
@@ -16,8 +15,8 @@ use Rattle.hubs.specs.Search.{Back}
 use Rattle.labels.specs.declared.record.Record.{Record}
 use Rattle.labels.specs.declared.record.Stage.{Stage}
 use Rattle.labels.specs.declared.record.Stage.TheVariants.{Waiting, Cut, Hub}
-use Rattle.labels.specs.State.{blank, past, is_hub, length_in, settled_in, hub_in, known, done, got, noted, Upto}
-use Rattle.labels.specs.Steps.{Better, Unchanged, Relaxed, Steady, LeadsBack, FirstBack}
+use Rattle.labels.specs.State.{blank, past, is_hub, length_in, settled_in, hub_in, known, done, got, noted}
+use Rattle.labels.specs.Steps.{Relaxed, Steady, LeadsBack, FirstBack}
 use Rattle.labels.specs.Pruning.{Due, DueBut, Pruning}
 use Rattle.labels.proofs.Layouts.{upto_set, field_kept}
 use Rattle.labels.proofs.Pruning.{bettered, kept_got, refollow, followed}

@@ -1,5 +1,5 @@
 -- The theory of the pruned search: no code. Assumes nothing.
-use Rattle.std.proofs.Common.{◌≡◌, ℕ, zero, suc, ◌+◌, ◌<◌, ◌≤◌, Bool, true, false, ◌⊎◌, List, [], ◌∷◌, Some, None, Option, sym, refl, ap, ◌∙◌, subst, inl, inr, arith}
+use Rattle.std.proofs.Common.{◌≡◌, ℕ, ◌+◌, ◌<◌, ◌≤◌, Bool, true, false, ◌⊎◌, List, [], ◌∷◌, Some, None, Option, sym, refl, ap, ◌∙◌, subst, inl, inr, arith}
 use native.Mathlib.Decide.{ℕ_discrete, dec_le}
 use Rattle.std.specs.List.{AllByRecursion as All}
 use Rattle.std.specs.List.Sorted.{IsPermutation}
@@ -13,14 +13,14 @@ use Rattle.search.proofs.Steps.{onward}
 use Rattle.ways.specs.declared.row.Row.{Row}
 use Rattle.ways.specs.Options.{AtMost}
 use Rattle.ways.specs.Places.{Order}
-use Rattle.ways.specs.Way.{Joined, Leads, Way, Lawful}
-use Rattle.ways.specs.Distance.{Reached, distance}
+use Rattle.ways.specs.Way.{Joined, Way, Lawful}
+use Rattle.ways.specs.Distance.{Reached}
 use Rattle.ways.proofs.Graph.{weaken, turn, some_length}
 use Rattle.ways.proofs.Metric.{same, not_both, far_way, far_back}
 use Rattle.hubs.specs.declared.entry.Entry.{Entry}
 use Rattle.hubs.specs.Labels.{place, Hub, ExactBelow}
 use Rattle.hubs.specs.Merge.{Less}
-use Rattle.hubs.specs.Search.{said, Tried, Searched, Back, BackFirst, Written}
+use Rattle.hubs.specs.Search.{said, Tried, Searched, Back}
 use Rattle.hubs.proofs.Hubs.{place_in}
 use Rattle.hubs.proofs.Prune.{pruned}
 use Rattle.labels.specs.Pruning.{Due, DueBut, Pruning}

@@ -1,5 +1,5 @@
 -- The loop of a pruned search. Assumes nothing.
-use Rattle.std.proofs.Common.{◌≡◌, ℕ, zero, suc, ◌+◌, ◌*◌, ◌<◌, ◌≤◌, Bool, true, false, cond, eqb, ltb, leb, ◌⊎◌, List, [], ◌∷◌, length, get_or, set, Some, None, Option, sym, refl, ap, ◌∙◌, subst, inl, inr, arith, eq-eqb, ne_eqb}
+use Rattle.std.proofs.Common.{◌≡◌, ℕ, ◌+◌, ◌*◌, ◌<◌, ◌≤◌, Bool, true, false, cond, eqb, ltb, leb, ◌⊎◌, List, [], ◌∷◌, length, get_or, set, Some, None, Option, sym, refl, ap, ◌∙◌, subst, inl, inr, arith, eq-eqb, ne_eqb}
 use native.Mathlib.Decide.{ℕ_discrete, dec_le}
 use Rattle.std.specs.List.{AllByRecursion as All}
 use Rattle.std.specs.List.Sorted.{IsPermutation}
@@ -17,15 +17,13 @@ use Rattle.frame.proofs.Degrees.{degrees_sum}
 use Rattle.ways.specs.declared.row.Row.{Row}
 use Rattle.ways.specs.Options.{pick, AtMost}
 use Rattle.ways.proofs.Graph.{no_longer}
-use Rattle.ways.proofs.Metric.{same, not_both}
+use Rattle.ways.proofs.Metric.{not_both}
 use Rattle.hubs.specs.declared.entry.Entry.{Entry}
-use Rattle.hubs.specs.Labels.{place, In, ExactBelow}
+use Rattle.hubs.specs.Labels.{place, In}
 use Rattle.hubs.specs.Search.{said, Written}
 use Rattle.hubs.proofs.Hubs.{place_in}
 use Rattle.hubs.proofs.Searching.{search_grows}
 use Rattle.labels.specs.declared.record.Record.{Record}
-use Rattle.labels.specs.declared.record.Stage.{Stage}
-use Rattle.labels.specs.declared.record.Stage.TheVariants.{Waiting, Cut, Hub}
 use Rattle.labels.specs.Table.{no_entry, row_in, Fits, Behind}
 use Rattle.labels.specs.State.{blank, is_hub, length_in, settled_in, hub_in, known, done, got, first_record, Upto, SameSearch, Laid}
 use Rattle.labels.specs.Pruning.{Due, Pruning}

@@ -1,5 +1,5 @@
 -- What memory that suffices has. Assumes nothing.
-use Rattle.std.proofs.Common.{◌≡◌, ℕ, ◌+◌, ◌*◌, ◌<◌, ◌≤◌, Bool, true, false, eqb, ltb, List, Ok, Err, Result, sym, refl, ap, ◌∙◌, subst, inl, inr, arith, ltb-false, eqb-true}
+use Rattle.std.proofs.Common.{◌≡◌, ℕ, ◌+◌, ◌*◌, ◌<◌, ◌≤◌, Bool, true, false, eqb, ltb, List, Ok, Err, sym, refl, ap, ◌∙◌, subst, inl, inr, arith, ltb-false, eqb-true}
 use Rattle.ways.specs.declared.row.Row.{Row}
 use Rattle.ways.specs.Options.{pick}
 use Rattle.ways.specs.Places.{Order as Ordered}

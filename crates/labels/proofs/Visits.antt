@@ -1,11 +1,10 @@
 -- One place of a pruned search. Assumes nothing.
-use Rattle.std.proofs.Common.{◌≡◌, ℕ, zero, suc, ◌+◌, ◌<◌, ◌≤◌, Bool, true, false, eqb, ◌⊎◌, List, [], ◌∷◌, ◌++◌, length, get_or, set, Some, None, Option, sym, refl, ap, ◌∙◌, subst, inl, inr, arith, eq-eqb, eqb-true}
+use Rattle.std.proofs.Common.{◌≡◌, ℕ, ◌+◌, ◌<◌, ◌≤◌, Bool, true, false, eqb, ◌⊎◌, List, [], ◌∷◌, ◌++◌, length, get_or, set, Some, None, Option, sym, refl, ap, ◌∙◌, subst, inl, inr, arith}
 use native.Mathlib.Decide.{ℕ_discrete}
 use Rattle.std.specs.List.{AllByRecursion as All}
 use Rattle.std.specs.List.Sorted.{IsPermutation}
 use Rattle.heap.specs.declared.search.SearchEntry.{SearchEntry}
 use Rattle.frame.specs.declared.arc.Arc.{Arc}
-use Rattle.frame.specs.Neighbours.{Neighbours}
 use Rattle.ways.specs.declared.row.Row.{Row}
 use Rattle.ways.specs.Options.{pick}
 use Rattle.ways.proofs.Metric.{same, not_both}
@@ -16,12 +15,12 @@ use Rattle.hubs.specs.Search.{said, Back, BackFirst, Written}
 use Rattle.hubs.proofs.Hubs.{place_in}
 use Rattle.labels.specs.declared.record.Record.{Record}
 use Rattle.labels.specs.declared.record.Stage.{Stage}
-use Rattle.labels.specs.declared.record.Stage.TheVariants.{Waiting, Cut, Hub as AtHub}
-use Rattle.labels.specs.Table.{no_entry, count_of, row_in, Fits, Behind, Longer}
-use Rattle.labels.specs.State.{blank, past, is_hub, length_in, settled_in, hub_in, known, done, got, laid_at, staged, Upto, Laid, Tells}
+use Rattle.labels.specs.declared.record.Stage.TheVariants.{Cut, Hub as AtHub}
+use Rattle.labels.specs.Table.{no_entry, count_of, row_in, Longer}
+use Rattle.labels.specs.State.{blank, past, length_in, settled_in, hub_in, known, done, got, laid_at, staged, Upto, Laid, Tells}
 use Rattle.labels.specs.Steps.{Steady, Chosen, Followed}
 use Rattle.labels.specs.Pruning.{Due, DueBut, Pruning}
-use Rattle.labels.specs.Rounds.{Ready, Searching, Settles, Adds, Visiting, Overfull}
+use Rattle.labels.specs.Rounds.{Searching, Settles, Adds, Visiting}
 use Rattle.labels.proofs.Layouts.{upto_set, field_kept}
 use Rattle.labels.proofs.Marks.{at_new, at_other}
 use Rattle.labels.proofs.Pruning as theory

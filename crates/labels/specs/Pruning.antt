@@ -1,5 +1,5 @@
 -- What a pruned search keeps true. Assumes nothing.
-use Rattle.std.specs.Prelude.{◌≡◌, ℕ, Bool, true, ◌⊎◌, List, Some, None, Option, ◌≢◌}
+use Rattle.std.specs.Prelude.{◌≡◌, ℕ, Bool, true, ◌⊎◌, List, Some, Option, ◌≢◌}
 use Rattle.heap.specs.declared.search.SearchEntry.{SearchEntry}
 use Rattle.search.specs.State.{Kept}
 use Rattle.ways.specs.declared.row.Row.{Row}

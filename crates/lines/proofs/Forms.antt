@@ -1,12 +1,11 @@
 -- From the numbers of a text to the line that it is.
-use Rattle.std.proofs.Common.{◌≡◌, ℕ, suc, ◌+◌, ◌-◌, ◌*◌, ◌^◌, ◌<◌, ◌≤◌, min, List, [], ◌∷◌, ◌++◌, map, length, get_or, take, drop, Some, None, Option, sym, refl, ap, ◌∙◌, subst, arith}
+use Rattle.std.proofs.Common.{◌≡◌, ℕ, ◌-◌, List, [], ◌∷◌, length, get_or, take, drop, Some, None, Option, sym, ap, ◌∙◌, subst, arith}
 use Rattle.std.proofs.lemmas.List.{take_rest}
-use Rattle.lines.specs.Text.{Stops, Opens, Numbered, Next, NoNext, held}
-use Rattle.lines.specs.Said.{Said, places, ducts, duct, fittings, fitting, letter_of, numbers_of, Formed, Formless, capped, Lists, Tells, Reads, Listing, Alone, Ducting, Fitted}
+use Rattle.lines.specs.Text.{Numbered, Next, NoNext, held}
+use Rattle.lines.specs.Said.{Said, places, ducts, duct, fittings, fitting, letter_of, numbers_of, Formed, Formless, capped, Reads, Alone, Ducting, Fitted}
 use Rattle.lines.specs.declared.line.Line.{Line}
-use Rattle.lines.specs.declared.line.Line.TheVariants.{Places, Ducts, Duct, Fittings, Fitting}
-use Rattle.lines.specs.declared.line.Listed.{Listed}
-use Rattle.lines.proofs.Numbers.{Once, opens_once, stops_numbered}
+use Rattle.lines.specs.declared.line.Line.TheVariants.{Places, Ducts, Duct, Fittings}
+use Rattle.lines.proofs.Numbers.{opens_once, stops_numbered}
 
 -- no number, so no numbers
 pub no_first : (text : List ℕ) → NoNext text → (v : ℕ) (vs : List ℕ) → Numbered text (v ∷ vs) → ⊥

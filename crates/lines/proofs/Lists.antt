@@ -1,6 +1,6 @@
 -- A list that grows by one number.
-use Rattle.std.proofs.Common.{◌≡◌, ℕ, suc, ◌+◌, ◌-◌, ◌<◌, ◌≤◌, min, Bool, true, false, cond, ltb, ◌⊎◌, List, [], ◌∷◌, ◌++◌, map, length, get_or, take, drop, set, sym, refl, ap, ◌∙◌, subst, inl, inr, arith, rules}
-use Rattle.std.proofs.lemmas.List.{take_all, length_push, take_more_set, take-append-le, length-map, map_push, length-set}
+use Rattle.std.proofs.Common.{◌≡◌, ℕ, suc, ◌+◌, ◌<◌, ◌≤◌, Bool, true, false, cond, ltb, List, [], ◌∷◌, ◌++◌, map, length, take, set, refl, arith, rules}
+use Rattle.std.proofs.lemmas.List.{take_all, length_push, take_more_set, take-append-le, length-map, map_push}
 use Rattle.lines.specs.Said.{capped, shorts}
 
 -- one more number is stored where there is room

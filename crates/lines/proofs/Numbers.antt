@@ -1,11 +1,11 @@
 -- A text of numbers: read in one way only, and its steps.
-use Rattle.std.proofs.Common.{◌≡◌, ℕ, suc, ◌+◌, ◌-◌, ◌*◌, ◌^◌, ◌<◌, ◌≤◌, min, Bool, true, false, cond, List, [], ◌∷◌, ◌++◌, map, length, get_or, take, drop, set, sym, refl, ap, ◌∙◌, subst, arith, rules}
+use Rattle.std.proofs.Common.{◌≡◌, ℕ, ◌+◌, ◌-◌, ◌<◌, ◌≤◌, List, [], ◌∷◌, ◌++◌, length, get_or, take, drop, sym, refl, ap, ◌∙◌, subst, arith}
 use Rattle.std.proofs.lemmas.List.{length-append, length_push, nil_from_length, append_cancel_right, append_assoc, append-nil}
 use Rattle.std.proofs.lemmas.Slice.{first_rest}
 use Rattle.std.specs.Str.Parse.{AllDigits, digits_value}
 use Rattle.std.specs.Int.{IsInRange}
 use Rattle.std.proofs.lemmas.Str.Parse.{digit_at}
-use Rattle.lines.specs.Text.{Plain, Stops, Opens, Numbered, Next, NoNext, held}
+use Rattle.lines.specs.Text.{Stops, Opens, Numbered, Next, NoNext, held}
 use Rattle.lines.specs.Said.{Lists}
 use Rattle.lines.specs.declared.line.Listed.{Listed}
 

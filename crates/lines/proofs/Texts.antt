@@ -1,11 +1,11 @@
 -- The text of a line and the line of a text.
-use Rattle.std.proofs.Common.{◌≡◌, ℕ, suc, ◌+◌, ◌-◌, ◌*◌, ◌^◌, ◌<◌, ◌≤◌, min, Bool, true, false, cond, eqb, List, [], ◌∷◌, ◌++◌, map, length, get_or, drop, decimal, sym, refl, ap, ◌∙◌, subst, inl, inr, arith}
+use Rattle.std.proofs.Common.{◌≡◌, ℕ, ◌<◌, cond, eqb, List, [], ◌∷◌, length, get_or, drop, decimal, sym, refl, ap, ◌∙◌, subst, inl, inr, arith}
 use Rattle.std.proofs.lemmas.Fmt.{decimal_is_IsNumeral, decimal_nonempty, first_decimal, decimal-digits_value, decimal_digit, length-decimal-le}
 use Rattle.std.proofs.lemmas.Str.Parse.{IsNumeralModel, numerals_by_value, tells_digits, digits_value_short}
-use Rattle.std.proofs.lemmas.Bool.{cases_eq, cases_lt}
+use Rattle.std.proofs.lemmas.Bool.{cases_eq}
 use Rattle.std.specs.Str.Parse.{AllDigits, digits_value}
-use Rattle.lines.specs.Text.{Plain, Stops, Opens, Numbered, Short, tail_text}
-use Rattle.lines.specs.Said.{Said, places, ducts, duct, fittings, fitting, letter_of, numbers_of, Formed, line_text}
+use Rattle.lines.specs.Text.{Plain, Numbered, Short, tail_text}
+use Rattle.lines.specs.Said.{Said, places, ducts, duct, fittings, fitting, letter_of, numbers_of}
 use Rattle.lines.specs.Laws.{WrittenReads, ReadWrites, ReadOnce, SevenDigits}
 use Rattle.lines.proofs.Numbers.{numbered_once}
 

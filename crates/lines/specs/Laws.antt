@@ -1,6 +1,6 @@
 -- What is proved of the text of lines. Assumes nothing.
 use Rattle.std.specs.Prelude.{◌≡◌, ℕ, ◌<◌, List, length}
-use Rattle.lines.specs.Text.{Short, Plain, Opens}
+use Rattle.lines.specs.Text.{Short, Opens}
 use Rattle.lines.specs.Said.{Said, numbers_of, Formed, line_text}
 
 -- a written line reads as the line that it is

@@ -1,5 +1,5 @@
 -- What a line of a ticket says, its text, and how its reader tells it. Assumes nothing.
-use Rattle.std.specs.Prelude.{◌≡◌, ℕ, ◌^◌, ◌<◌, min, List, [], ◌∷◌, ◌++◌, map, length, take, Some, None, Ok, Err, Option, Result, nat_lt}
+use Rattle.std.specs.Prelude.{◌≡◌, ℕ, ◌^◌, ◌<◌, min, List, [], ◌∷◌, map, length, take, Some, None, Ok, Err, Option, Result, nat_lt}
 use Rattle.std.specs.List.{prefix_len}
 use Rattle.lines.specs.declared.fault.ReaderFault.{ReaderFault}
 use Rattle.lines.specs.declared.fault.ReaderFault.TheVariants.{Form}

@@ -1,5 +1,5 @@
 -- The measured cases: what the definitions say of the worked example. Assumes nothing.
-use Rattle.std.specs.Prelude.{◌≡◌, ℕ, [], ◌∷◌, Some, None}
+use Rattle.std.specs.Prelude.{◌≡◌, ℕ, [], ◌∷◌, Some}
 use Rattle.ways.specs.Way.{Hop}
 use Rattle.ways.specs.Distance.{distance}
 use Rattle.oracle.specs.Meaning.{Meaning, far}

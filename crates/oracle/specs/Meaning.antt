@@ -1,5 +1,5 @@
 -- What a distance oracle means: places, ducts and a way rule, and what makes that sound. Assumes nothing.
-use Rattle.std.specs.Prelude.{◌≡◌, ℕ, ◌+◌, ◌<◌, ◌≤◌, List, [], ◌∷◌, Some, None, Option, ◌≢◌}
+use Rattle.std.specs.Prelude.{◌≡◌, ℕ, ◌+◌, ◌<◌, ◌≤◌, List, Some, None, Option, ◌≢◌}
 use Rattle.ways.specs.declared.row.Row.{Row}
 use Rattle.ways.specs.Way.{Hop, Joined, Lawful}
 use Rattle.ways.specs.Distance.{distance}

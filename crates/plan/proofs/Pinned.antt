@@ -6,7 +6,7 @@ use Rattle.ways.specs.Nearest.{Later}
 use Rattle.oracle.specs.Meaning.{Meaning, far}
 use Rattle.trees.specs.Connected.{weight}
 use Rattle.trees.specs.Growth.{net}
-use Rattle.trees.specs.Groups.{cost, focus_on}
+use Rattle.trees.specs.Groups.{focus_on}
 use Rattle.plan.specs.declared.fault.PlanFault.TheVariants.{Count, NoPlace, Rows, NoSet}
 use Rattle.plan.specs.declared.start.Start.{Start}
 use Rattle.plan.specs.Choices.{Begins, Gathered, Chosen}

@@ -1,10 +1,10 @@
 -- The ducts of one place, one after another. Assumes nothing.
-use Rattle.std.proofs.Common.{◌≡◌, ℕ, ◌+◌, ◌<◌, ◌≤◌, List, length, get_or, Some, None, Option, sym, refl, ap, ◌∙◌, subst, arith}
+use Rattle.std.proofs.Common.{◌≡◌, ℕ, ◌+◌, ◌<◌, ◌≤◌, List, length, Some, None, Option, sym, ap, ◌∙◌, subst, arith}
 use native.Mathlib.Decide.{ℕ_discrete, dec_le}
 use Rattle.std.proofs.ByRecursion.{All-from_get_or, All-get_or}
 use Rattle.heap.specs.declared.search.SearchEntry.{SearchEntry}
 use Rattle.ways.specs.declared.row.Row.{Row}
-use Rattle.ways.specs.Way.{Joined, Way, Lawful}
+use Rattle.ways.specs.Way.{Joined, Lawful}
 use Rattle.ways.specs.Options.{AtMost}
 use Rattle.ways.specs.Distance.{Reached}
 use Rattle.ways.proofs.Graph.{to_in, no_longer}

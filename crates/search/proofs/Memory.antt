@@ -1,7 +1,6 @@
 -- What a plain oracle is made of. Assumes nothing.
-use Rattle.std.proofs.Common.{◌≡◌, ℕ, zero, suc, ◌+◌, ◌-◌, ◌*◌, ◌<◌, ◌≤◌, Bool, true, false, ltb, leb, List, length, get_or, replicate, sym, refl, ap, ◌∙◌, arith, leb-false, leb-true}
+use Rattle.std.proofs.Common.{◌≡◌, ℕ, zero, suc, ◌+◌, ◌-◌, ◌*◌, ◌<◌, ◌≤◌, Bool, true, false, ltb, leb, List, length, replicate, sym, refl, ap, ◌∙◌, arith, leb-false, leb-true}
 use mathlib.Core.Path.{fun_ext}
-use Rattle.std.proofs.lemmas.Bool.{le-leb, both_ways}
 use Rattle.ways.specs.Nearest.{no_place}
 use Rattle.ways.specs.declared.row.Row.{Row}
 use Rattle.search.specs.declared.record.Record.{Record}

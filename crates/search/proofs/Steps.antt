@@ -1,14 +1,13 @@
 -- What one arc changes, at the marks of the code. Assumes nothing.
-use Rattle.std.proofs.Common.{◌≡◌, ℕ, zero, suc, ◌+◌, ◌<◌, ◌≤◌, Bool, true, false, ◌⊎◌, List, [], ◌∷◌, length, get_or, set, Some, None, Option, sym, refl, ap, ◌∙◌, subst, inl, inr, arith, get_or-set_other, get_or-set_same}
-use native.Mathlib.Decide.{ℕ_discrete, dec_le}
+use Rattle.std.proofs.Common.{◌≡◌, ℕ, ◌+◌, ◌<◌, ◌≤◌, Bool, List, [], ◌∷◌, length, Some, Option, sym, refl, ap, ◌∙◌, subst, inl, inr, arith, get_or-set_other, get_or-set_same}
+use native.Mathlib.Decide.{ℕ_discrete}
 use Rattle.std.specs.List.Sorted.{IsPermutation}
 use Rattle.heap.specs.declared.search.SearchEntry.{SearchEntry}
 use Rattle.ways.specs.declared.row.Row.{Row}
 use Rattle.search.specs.declared.record.Record.{Record}
 use Rattle.ways.specs.Way.{Joined, Way}
 use Rattle.ways.specs.Options.{AtMost}
-use Rattle.ways.specs.Distance.{Reached}
-use Rattle.search.specs.State.{blank, known, done, lit, noted, Kept, But, Better, Unchanged, Relaxed}
+use Rattle.search.specs.State.{blank, known, done, lit, noted, Kept, Relaxed}
 use Rattle.search.proofs.Theory as theory
 use Rattle.ways.proofs.Graph.{here, hop, join}
 

@@ -1,11 +1,11 @@
 -- What the plain oracle tells, from the records of a search towards the goal. Assumes nothing.
-use Rattle.std.proofs.Common.{◌≡◌, ℕ, ◌+◌, ◌*◌, ◌<◌, ◌≤◌, Bool, true, false, eqb, ltb, leb, List, length, get_or, Some, None, Option, sym, refl, ap, ◌∙◌, subst, arith, ltb-true, ne_eqb, leb-true}
+use Rattle.std.proofs.Common.{◌≡◌, ℕ, ◌*◌, ◌<◌, ◌≤◌, Bool, true, false, ltb, leb, List, length, Some, None, Option, sym, refl, ap, ◌∙◌, subst, arith, ltb-true, ne_eqb, leb-true}
 use mathlib.Core.Path.{fun_ext}
 use native.Mathlib.Decide.{dec_le}
 use Rattle.std.proofs.lemmas.Bool.{both_ways}
 use Rattle.std.proofs.ByRecursion.{All-from_get_or, All-get_or}
 use Rattle.ways.specs.declared.row.Row.{Row}
-use Rattle.ways.specs.Way.{Hop, Joined, Lawful}
+use Rattle.ways.specs.Way.{Joined, Lawful}
 use Rattle.ways.specs.Options.{pick, plus}
 use Rattle.ways.specs.declared.near.Near.{Near}
 use Rattle.ways.specs.Distance.{distance}
@@ -15,14 +15,13 @@ use Rattle.ways.proofs.Metric.{distance_symmetric}
 use Rattle.frame.specs.declared.arc.Arc.{Arc}
 use Rattle.frame.specs.Fans.{arc_at, no_arc}
 use Rattle.frame.specs.Neighbours.{Neighbours}
-use Rattle.oracle.specs.declared.step.Step.{Step}
 use Rattle.oracle.specs.declared.step.Step.TheVariants.{Here, NoWay, Next}
 use Rattle.oracle.specs.Meaning.{Meaning, far}
 use Rattle.oracle.specs.Answers.{step_for, step_of}
 use Rattle.search.specs.declared.record.Record.{Record}
 use Rattle.search.specs.State.{known, lit}
 use Rattle.search.specs.Plain.{alike, onward, plain_rule, nowhere, enough, plain_meaning}
-use Rattle.search.specs.Scan.{leads_on, Passed, Chosen}
+use Rattle.search.specs.Scan.{leads_on, Chosen}
 use Rattle.search.specs.Rules.{Least, least_once, rule_least}
 
 -- the frame as an oracle's meaning

@@ -1,5 +1,5 @@
 -- The plain way rule leads to the goal, and a scan of the neighbours by rising number finds it. Assumes nothing.
-use Rattle.std.specs.Prelude.{◌≡◌, ℕ, ◌+◌, ◌<◌, ◌≤◌, Bool, true, false, ◌⊎◌, List, [], ◌∷◌, Some, None, Option, ◌==◌, ◌≢◌, nat_le, refl}
+use Rattle.std.specs.Prelude.{◌≡◌, ℕ, ◌+◌, ◌<◌, ◌≤◌, Bool, true, false, List, [], ◌∷◌, Some, None, Option, ◌==◌, ◌≢◌, nat_le, refl}
 use Rattle.std.proofs.Common.{sym, ap, subst, ◌∙◌, inl, inr, arith, eqb-true, leb-true, leb-false, eq-eqb}
 use Rattle.std.proofs.lemmas.Bool.{both_ways, eqb-false}
 use Rattle.ways.specs.declared.row.Row.{Row}
@@ -7,8 +7,7 @@ use Rattle.ways.specs.Way.{Hop, Joins, Joined, Lawful}
 use Rattle.ways.specs.Options.{pick, plus}
 use Rattle.ways.specs.Distance.{distance}
 use Rattle.ways.proofs.Metric.{far_first}
-use Rattle.ways.proofs.Graph.{to_in}
-use Rattle.oracle.specs.Meaning.{Meaning, Sound, Towards, far}
+use Rattle.oracle.specs.Meaning.{Meaning, Sound, Towards}
 use Rattle.search.specs.Plain.{alike, onward, leading, smaller, smallest, hop_or, plain_rule, nowhere, enough, plain_meaning}
 
 -- what two lengths that are alike are

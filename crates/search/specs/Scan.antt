@@ -1,5 +1,5 @@
 -- What a scan of neighbours and a scan of records find. Assumes nothing.
-use Rattle.std.specs.Prelude.{◌≡◌, ℕ, ◌<◌, Bool, true, false, List, length, Some, None, Option, ◌≢◌, nat_lt}
+use Rattle.std.specs.Prelude.{◌≡◌, ℕ, ◌<◌, Bool, true, List, length, Some, None, Option, ◌≢◌, nat_lt}
 use Rattle.ways.specs.declared.near.Near.{Near}
 use Rattle.ways.specs.Options.{pick, plus}
 use Rattle.frame.specs.declared.arc.Arc.{Arc}

@@ -1,24 +1,22 @@
 -- An accepted byte string is the text of what was read. Assumes nothing.
-use Rattle.std.proofs.Common.{◌≡◌, ℕ, zero, suc, ◌+◌, ◌-◌, ◌<◌, ◌≤◌, Bool, true, false, cond, not, eqb, ltb, ◌⊎◌, List, [], ◌∷◌, ◌++◌, length, Some, None, Ok, Err, Option, Result, sym, refl, ap, ◌∙◌, subst, inl, inr, arith}
+use Rattle.std.proofs.Common.{◌≡◌, ℕ, ◌+◌, ◌-◌, ◌<◌, ◌≤◌, Bool, true, false, cond, not, eqb, ltb, ◌⊎◌, List, [], ◌∷◌, ◌++◌, length, Some, None, Ok, Err, Option, sym, refl, ap, ◌∙◌, subst, inl, inr, arith}
 use Rattle.std.proofs.lemmas.List.{append_assoc, append-nil}
 use Rattle.std.proofs.lemmas.Bool.{ltb-true, ltb-false, eqb-true, eqb-false, not-false}
 use Rattle.std.specs.List.{flat_map}
 use Rattle.ways.specs.declared.row.Row.{Row}
-use Rattle.frame.specs.Verdict.{Verdict, places_verdict, verdict}
+use Rattle.frame.specs.Verdict.{Verdict}
 use Rattle.job.specs.declared.fault.JobFault.{JobFault}
 use Rattle.job.specs.declared.fault.JobFault.TheVariants.{Number}
-use Rattle.job.specs.Day.{adds}
-use Rattle.job.specs.Day as day
-use Rattle.lines.specs.Said.{Said, places, ducts, duct, fittings, fitting, numbers_of, Formed, line_text, shorts}
+use Rattle.lines.specs.Said.{Said, places, ducts, duct, fittings, fitting, Formed, line_text, shorts}
 use Rattle.lines.specs.Text.{Short}
 use Rattle.lines.proofs.Texts.{read_writes}
 use Rattle.ticket.specs.declared.due.Due.{Due}
-use Rattle.ticket.specs.declared.due.Due.TheVariants.{PlacesLine, DuctsLine, DuctLines, FittingLines}
+use Rattle.ticket.specs.declared.due.Due.TheVariants.{DuctsLine, DuctLines, FittingLines}
 use Rattle.ticket.specs.declared.fault.TicketFault.{TicketFault}
-use Rattle.ticket.specs.declared.fault.TicketFault.TheVariants.{Reader, Frame, Job}
+use Rattle.ticket.specs.declared.fault.TicketFault.TheVariants.{Job}
 use Rattle.ticket.specs.Faults.{section, limit, form}
-use Rattle.ticket.specs.Steps.{Fit, standing, State, Step, opening, refuse, by_frame, by_job, places_step, ducts_step, duct_checks, duct_step, fittings_step, fitting_checks, fitting_step, step}
-use Rattle.ticket.specs.Runs.{Cut, onto, cut, closing, After, Told, step_told, Ends}
+use Rattle.ticket.specs.Steps.{Fit, State, Step, opening, refuse, by_frame, by_job, places_step, ducts_step, duct_step, fittings_step, fitting_step, step}
+use Rattle.ticket.specs.Runs.{onto, cut, closing, After, Ends}
 use Rattle.ticket.specs.Tickets.{ended, duct_text, fit_text, ticket_text, Climbs}
 
 -- a step that is taken passed each check

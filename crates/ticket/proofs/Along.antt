@@ -1,5 +1,5 @@
 -- Where a reading stands between two lines. Assumes nothing.
-use Rattle.std.proofs.Common.{◌≡◌, ℕ, suc, ◌+◌, ◌<◌, ◌≤◌, Bool, true, false, cond, eqb, List, [], ◌∷◌, ◌++◌, length, get_or, Some, None, Ok, Err, Option, Result, sym, refl, ap, ◌∙◌, subst, arith}
+use Rattle.std.proofs.Common.{◌≡◌, ℕ, suc, ◌+◌, ◌≤◌, Bool, true, false, cond, eqb, List, [], ◌∷◌, ◌++◌, length, Some, Ok, Err, Option, sym, refl, ap, ◌∙◌, subst, arith}
 use Rattle.std.proofs.lemmas.List.{length-append}
 use Rattle.std.proofs.lemmas.Bool.{ne_eqb}
 use Rattle.frame.specs.declared.frame.OpenFrame.{OpenFrame}
@@ -9,7 +9,7 @@ use Rattle.lines.specs.Text.{Unbroken}
 use Rattle.ticket.specs.declared.due.Due.{Due}
 use Rattle.ticket.specs.declared.fault.TicketFault.{TicketFault}
 use Rattle.ticket.specs.Steps.{State, Step, opening}
-use Rattle.ticket.specs.Runs.{Cut, onto, cut, closing, After, Told, step_told, Ends, Holds, Tame, Did, Answers, answer_of}
+use Rattle.ticket.specs.Runs.{Cut, onto, cut, closing, After, Told, step_told, Ends, Holds, Tame, Did, Answers}
 
 unbroken_tail : (c : ℕ) (l : List ℕ) → Unbroken (c ∷ l) → Unbroken l
 unbroken_tail c l u k b e = u (suc k) (omega arith) e

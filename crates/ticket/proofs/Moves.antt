@@ -1,18 +1,17 @@
 -- The steps of a line, check by check. Assumes nothing.
-use Rattle.std.proofs.Common.{◌≡◌, ℕ, ◌+◌, ◌-◌, ◌<◌, ◌≤◌, min, Bool, true, false, cond, not, eqb, ltb, leb, List, [], ◌∷◌, ◌++◌, map, length, take, drop, is_some, Some, None, Ok, Err, Option, sym, refl, ap, ◌∙◌, subst, inl, inr, arith}
-use Rattle.std.proofs.lemmas.Bool.{ltb-true, ltb-false, eqb-true, eqb-false, lt-ltb, le-ltb, eq-eqb, ne_eqb, lt-leb, not_from_true, not_from_false, cases_lt, cond-true, cond-false}
+use Rattle.std.proofs.Common.{◌≡◌, ℕ, ◌+◌, ◌≤◌, min, Bool, true, false, cond, not, eqb, ltb, leb, List, [], ◌∷◌, ◌++◌, map, length, take, is_some, Some, None, Err, sym, refl, ap, ◌∙◌, inl, inr, arith}
+use Rattle.std.proofs.lemmas.Bool.{ltb-true, eqb-true, eqb-false, le-ltb, eq-eqb, ne_eqb, lt-leb, not_from_true, cases_lt, cond-true, cond-false}
 use Rattle.std.proofs.lemmas.List.{take_all, length-take-le}
-use Rattle.job.specs.declared.fault.JobFault.{JobFault}
 use Rattle.job.specs.declared.fault.JobFault.TheVariants.{Number, Places, Stands}
 use Rattle.job.specs.Day.{Standing, adds, put, unless, no_place, first_fault}
 use Rattle.job.specs.Day as day
-use Rattle.job.specs.Places.{formed, rises, outside}
+use Rattle.job.specs.Places.{formed, outside}
 use Rattle.lines.specs.Said.{capped, shorts, Lists}
 use Rattle.lines.specs.declared.line.Listed.{Listed}
 use Rattle.ticket.specs.declared.fault.TicketFault.{TicketFault}
-use Rattle.ticket.specs.declared.fault.TicketFault.TheVariants.{Reader, Frame, Job}
+use Rattle.ticket.specs.declared.fault.TicketFault.TheVariants.{Job}
 use Rattle.ticket.specs.Faults.{section, limit}
-use Rattle.ticket.specs.Steps.{Fit, standing, State, Step, refuse, by_job, fitting_checks}
+use Rattle.ticket.specs.Steps.{Fit, standing, Step, refuse, fitting_checks}
 
 pub yes_refused : (b : Bool) (e : TicketFault) (o : Step) → b ≡ true → refuse b e o ≡ Err e
 yes_refused b e o h = cond-true b (Err e) o h

@@ -1,7 +1,7 @@
 -- Text after text, with its length. Assumes nothing.
-use Rattle.std.proofs.Common.{◌≡◌, ℕ, zero, suc, ◌+◌, ◌-◌, ◌^◌, ◌<◌, ◌≤◌, min, Bool, true, false, cond, not, ◌||◌, eqb, ltb, List, [], ◌∷◌, ◌++◌, length, get_or, take, Some, None, Ok, Err, vec_items, vec_len, vec_capacity, Option, Vec, sym, refl, ap, ◌∙◌, subst, arith}
+use Rattle.std.proofs.Common.{◌≡◌, ℕ, zero, suc, ◌+◌, ◌-◌, ◌^◌, ◌<◌, ◌≤◌, min, true, false, ltb, List, [], ◌∷◌, ◌++◌, length, get_or, take, Some, None, Ok, Err, vec_items, vec_len, vec_capacity, Option, Vec, sym, refl, ap, ◌∙◌, subst, arith}
 use Rattle.std.proofs.lemmas.Bool.{ne_eqb, eq-eqb, lt-ltb, le-ltb}
-use Rattle.std.proofs.lemmas.List.{append_assoc, append-nil, length-append, take_all, take-take, take_at}
+use Rattle.std.proofs.lemmas.List.{append_assoc, append-nil, length-append, take-take, take_at}
 use Rattle.std.specs.List.{flat_map}
 use Rattle.std.specs.Option.{option_to_list}
 use Rattle.std.specs.declared.alloc.Global.{Global}
@@ -9,9 +9,7 @@ use Rattle.job.specs.Day.{Standing, below}
 use Rattle.lines.specs.Pages.{Puts}
 use Rattle.lines.specs.Text.{held}
 use Rattle.lines.proofs.Pages.{puts_none, puts_more, puts_joined, length_joined, puts_all}
-use Rattle.ticket.specs.Steps.{Fit}
-use Rattle.lines.specs.declared.fault.ReaderFault.{ReaderFault}
-use Rattle.lines.specs.declared.fault.ReaderFault.TheVariants.{OtherPlaces, Memory}
+use Rattle.lines.specs.declared.fault.ReaderFault.TheVariants.{Memory}
 use Rattle.ticket.specs.Tickets.{Wrote, entry, fits_below, fit_text, write_verdict}
 
 pub wrote_none : (v : Vec ℕ Global) → Wrote v v 0 []

@@ -1,10 +1,10 @@
 -- The text of what a ticket may hold is accepted. Assumes nothing.
-use Rattle.std.proofs.Common.{◌≡◌, ℕ, zero, suc, ◌+◌, ◌-◌, ◌<◌, ◌≤◌, Bool, true, false, cond, not, ◌&&◌, ◌||◌, eqb, ltb, leb, ◌⊎◌, List, [], ◌∷◌, ◌++◌, length, get_or, Some, None, Ok, Err, decimal, Option, Result, sym, refl, ap, ◌∙◌, subst, inl, inr, arith}
+use Rattle.std.proofs.Common.{◌≡◌, ℕ, suc, ◌+◌, ◌-◌, ◌<◌, ◌≤◌, Bool, true, false, not, ◌&&◌, eqb, ltb, List, [], ◌∷◌, ◌++◌, length, Some, None, Ok, decimal, Option, sym, refl, ap, ◌∙◌, subst, arith}
 use Rattle.std.proofs.lemmas.Fmt.{decimal_is_IsNumeral}
 use Rattle.std.proofs.ByRecursion.{All-get_or, All-from_get_or, All-append}
 use Rattle.std.proofs.lemmas.List.{append_assoc, append-nil, length-append, get_or_append_left, get_or_at}
 use Rattle.std.proofs.lemmas.Str.Parse.{digit_at}
-use Rattle.std.proofs.lemmas.Bool.{le-ltb, lt-ltb, lt-leb, eq-eqb, ne_eqb, eqb-true, not_from_true, or_from, and_left, and_right, cond-true, cond-false}
+use Rattle.std.proofs.lemmas.Bool.{le-ltb, lt-ltb, lt-leb, eq-eqb, ne_eqb, eqb-true, not_from_true, or_from, cond-true, cond-false}
 use Rattle.std.specs.List.{flat_map, AllByRecursion as All}
 use Rattle.ways.specs.declared.row.Row.{Row}
 use Rattle.ways.specs.Places.{AllBelow}
@@ -15,15 +15,14 @@ use Rattle.job.specs.Day.{adds, put}
 use Rattle.job.specs.Day as day
 use Rattle.job.specs.Places.{Fitted}
 use Rattle.job.proofs.Verdicts.{accepted_add}
-use Rattle.lines.specs.Said.{Said, places, ducts, duct, fittings, fitting, letter_of, numbers_of, Formed, line_text, shorts}
+use Rattle.lines.specs.Said.{Said, places, ducts, duct, fittings, fitting, letter_of, numbers_of, line_text, shorts}
 use Rattle.lines.specs.Text.{Unbroken, Short, tail_text}
 use Rattle.lines.proofs.Texts.{written_reads, read_once}
 use Rattle.ticket.specs.declared.due.Due.{Due}
-use Rattle.ticket.specs.declared.due.Due.TheVariants.{PlacesLine, DuctsLine, DuctLines, FittingLines}
+use Rattle.ticket.specs.declared.due.Due.TheVariants.{DuctsLine, DuctLines, FittingLines}
 use Rattle.ticket.specs.declared.fault.TicketFault.{TicketFault}
-use Rattle.ticket.specs.declared.fault.TicketFault.TheVariants.{Job}
 use Rattle.ticket.specs.Faults.{section, limit}
-use Rattle.ticket.specs.Steps.{Fit, standing, State, Step, opening, refuse, by_frame, by_job, places_step, ducts_step, duct_checks, duct_step, fittings_step, fitting_checks, fitting_step, step}
+use Rattle.ticket.specs.Steps.{Fit, standing, State, Step, opening, by_frame, by_job, duct_step, fittings_step, fitting_step, step}
 use Rattle.ticket.specs.Runs.{Cut, cut, closing, After, Told, step_told, Ends}
 use Rattle.ticket.specs.Tickets.{ended, duct_text, fit_text, ticket_text, Climbs, LawfulTicket}
 use Rattle.ticket.proofs.Along.{cut_line}

@@ -1,12 +1,12 @@
 -- From what a reading comes to, to the text that it is. Assumes nothing.
-use Rattle.std.proofs.Common.{◌≡◌, ℕ, List, [], ◌∷◌, ◌++◌, length, IfSome, Some, None, Ok, Option, sym, refl, ap, ◌∙◌, subst, arith}
+use Rattle.std.proofs.Common.{◌≡◌, ℕ, List, length, IfSome, Some, None, Ok, Option, sym, ap, ◌∙◌, subst, arith}
 use Rattle.frame.specs.declared.frame.OpenFrame.{OpenFrame}
 use Rattle.frame.specs.Of.{open_places, open_rows, places_of, rows_of}
 use Rattle.job.specs.declared.job.Job.{Job}
 use Rattle.job.specs.Day.{Standing}
 use Rattle.job.specs.Held.{held}
 use Rattle.ticket.specs.declared.fault.TicketFault.{TicketFault}
-use Rattle.ticket.specs.Steps.{Fit, standing}
+use Rattle.ticket.specs.Steps.{standing}
 use Rattle.std.specs.List.{AllByRecursion as All}
 use Rattle.frame.specs.declared.frame.ClosedFrame.{ClosedFrame}
 use Rattle.frame.specs.Rows.{Sound}

@@ -1,10 +1,10 @@
 -- How long the text of a ticket can be. Assumes nothing.
-use Rattle.std.proofs.Common.{◌≡◌, ℕ, ◌+◌, ◌*◌, ◌^◌, ◌<◌, ◌≤◌, List, [], ◌∷◌, ◌++◌, length, decimal, sym, refl, ap, ◌∙◌, arith}
+use Rattle.std.proofs.Common.{ℕ, ◌+◌, ◌*◌, ◌^◌, ◌<◌, ◌≤◌, List, [], ◌∷◌, ◌++◌, length, decimal, arith}
 use Rattle.std.proofs.lemmas.Fmt.{length-decimal-le}
 use Rattle.std.proofs.lemmas.List.{length-append, length_push}
 use Rattle.std.specs.List.{flat_map, AllByRecursion as All}
 use Rattle.ways.specs.declared.row.Row.{Row}
-use Rattle.ways.specs.Way.{LawfulDuct, Lawful}
+use Rattle.ways.specs.Way.{Lawful}
 use Rattle.job.specs.Places.{Fitted}
 use Rattle.lines.specs.Said.{Said, places, ducts, duct, fittings, fitting, numbers_of, line_text}
 use Rattle.lines.specs.Text.{Short, tail_text}

@@ -1,7 +1,7 @@
 -- What each kind of line does, from what the checks, the frame and the job say. Assumes nothing.
-use Rattle.std.proofs.Common.{◌≡◌, ℕ, ◌+◌, ◌-◌, ◌<◌, ◌≤◌, Bool, true, false, cond, not, eqb, ltb, List, [], ◌∷◌, ◌++◌, length, take, Some, None, Ok, Err, Option, Result, sym, refl, ap, ◌∙◌, subst, arith}
+use Rattle.std.proofs.Common.{◌≡◌, ℕ, ◌+◌, ◌-◌, ◌<◌, ◌≤◌, true, not, eqb, ltb, List, [], ◌∷◌, ◌++◌, length, take, Some, None, Ok, Err, Option, sym, refl, ap, ◌∙◌, subst, arith}
 use Rattle.std.proofs.lemmas.Bool.{le-ltb, leb-true, eq-eqb, not_from_true, and_parts}
-use Rattle.std.proofs.lemmas.List.{take_all, length-take, length-take-le}
+use Rattle.std.proofs.lemmas.List.{take_all}
 use Rattle.ways.specs.declared.row.Row.{Row}
 use Rattle.frame.specs.declared.frame.OpenFrame.{OpenFrame}
 use Rattle.frame.specs.declared.fault.FrameFault.{FrameFault}
@@ -15,18 +15,13 @@ use Rattle.job.specs.Held.{held}
 use Rattle.job.specs.Held as kept
 use Rattle.job.specs.Places.{formed}
 use Rattle.job.proofs.Verdicts.{add_checks}
-use Rattle.lines.specs.Said.{Said, places, ducts, duct, fittings, fitting, Formed, Formless, Tells, capped, shorts, Lists}
-use Rattle.lines.specs.declared.line.Line.{Line}
-use Rattle.lines.specs.declared.line.Line.TheVariants.{Places, Ducts, Duct, Fittings, Fitting}
-use Rattle.lines.specs.declared.line.Listed.{Listed}
-use Rattle.lines.specs.Text as text
+use Rattle.lines.specs.Said.{places, ducts, duct, fittings, fitting, capped}
 use Rattle.ticket.specs.declared.due.Due.{Due}
 use Rattle.ticket.specs.declared.due.Due.TheVariants.{PlacesLine, DuctsLine, DuctLines, FittingLines}
-use Rattle.ticket.specs.declared.fault.TicketFault.{TicketFault}
-use Rattle.ticket.specs.declared.fault.TicketFault.TheVariants.{Reader, Frame, Job as JobOn}
+use Rattle.ticket.specs.declared.fault.TicketFault.TheVariants.{Frame, Job as JobOn}
 use Rattle.ticket.specs.Faults.{section, limit}
-use Rattle.ticket.specs.Steps.{Fit, standing, State, Step, refuse, by_frame, by_job, places_step, ducts_step, duct_step, fittings_step, fitting_step, duct_checks, fitting_checks, Finds, step}
-use Rattle.ticket.specs.Runs.{Holds, Took, Did, Tame}
+use Rattle.ticket.specs.Steps.{standing, State, by_frame, by_job, places_step, ducts_step, duct_step, fittings_step, fitting_step, duct_checks, fitting_checks, Finds}
+use Rattle.ticket.specs.Runs.{Holds, Took}
 use Rattle.ticket.proofs.Moves.{not_refused, standing_push, first_places}
 
 pub places_taken : (room at n v : ℕ) (frame frame' : OpenFrame) (job job' : Job) (s : State) (due : Due) → Holds room frame job s → s.due ≡ due → due ≡ PlacesLine → n ≡ capped v → n < 10000000 → Ok tt ≡ places_verdict n → open_places frame' ≡ n → open_rows frame' ≡ [] → open_room frame' ≡ open_room frame → kept.Agrees n [] job' → Took room at s (places v) frame' job' (Ok DuctsLine)

@@ -1,5 +1,5 @@
 -- From what a line is told as to what it says. Assumes nothing.
-use Rattle.std.proofs.Common.{◌≡◌, ℕ, List, Some, None, Ok, Err, Result, sym, refl, ap, ◌∙◌, subst, arith}
+use Rattle.std.proofs.Common.{◌≡◌, ℕ, List, Some, Ok, Err, Result, refl, subst, arith}
 use Rattle.frame.specs.declared.frame.OpenFrame.{OpenFrame}
 use Rattle.job.specs.declared.job.Job.{Job}
 use Rattle.lines.specs.Said.{Said, places, ducts, duct, fittings, fitting, Formed, Tells, capped, Lists}

@@ -1,10 +1,9 @@
 -- What a byte string is as a ticket: its lines, and the first of them that is refused. Assumes nothing.
-use Rattle.std.specs.Prelude.{◌≡◌, ℕ, ◌+◌, ◌≤◌, Bool, true, false, cond, List, [], ◌∷◌, Some, None, Ok, Err, Option, Result, ◌==◌}
+use Rattle.std.specs.Prelude.{◌≡◌, ℕ, ◌+◌, ◌≤◌, cond, List, [], ◌∷◌, Some, None, Ok, Err, Option, Result, ◌==◌}
 use Rattle.frame.specs.declared.frame.OpenFrame.{OpenFrame}
 use Rattle.frame.specs.Of.{open_places, open_room, open_rows}
 use Rattle.job.specs.declared.job.Job.{Job}
 use Rattle.job.specs.Held.{held}
-use Rattle.lines.specs.declared.line.Line.{Line}
 use Rattle.lines.specs.Said.{Said, Formed, Formless}
 use Rattle.ticket.specs.declared.due.Due.{Due}
 use Rattle.ticket.specs.declared.due.Due.TheVariants.{PlacesLine, DuctsLine, DuctLines, FittingLines}

@@ -10,7 +10,7 @@ use Rattle.lines.specs.Said.{Said, places, ducts, duct, fittings, fitting, short
 use Rattle.ticket.specs.declared.due.Due.{Due}
 use Rattle.ticket.specs.declared.due.Due.TheVariants.{PlacesLine, DuctsLine, DuctLines, FittingLines}
 use Rattle.ticket.specs.declared.fault.TicketFault.{TicketFault}
-use Rattle.ticket.specs.declared.fault.TicketFault.TheVariants.{Reader, Frame, Job}
+use Rattle.ticket.specs.declared.fault.TicketFault.TheVariants.{Frame, Job}
 use Rattle.ticket.specs.Faults.{section, limit}
 
 -- a fitting as a ticket lists it

@@ -1,5 +1,5 @@
 -- A tree's lists may be put together the other way round. Assumes nothing.
-use Rattle.std.proofs.Common.{◌≡◌, ℕ, ◌+◌, ◌⊎◌, List, [], ◌∷◌, ◌++◌, length, sym, inl, inr, arith, length-append}
+use Rattle.std.proofs.Common.{◌≡◌, ℕ, ◌+◌, ◌⊎◌, List, [], ◌∷◌, ◌++◌, sym, inl, inr, arith, length-append}
 use Rattle.ways.specs.declared.row.Row.{Row}
 use Rattle.ways.specs.Places.{On}
 use Rattle.ways.specs.Way.{Hop, Joins, Joined, Leads}

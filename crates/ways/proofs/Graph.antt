@@ -1,8 +1,8 @@
 -- Ways put together, and what a distance says of them. Assumes nothing.
-use Rattle.std.proofs.Common.{◌≡◌, ℕ, ◌+◌, ◌<◌, ◌≤◌, Bool, true, false, leb, ◌⊎◌, List, [], ◌∷◌, ◌++◌, Some, None, Option, sym, refl, ap, ◌∙◌, subst, inl, inr, arith}
+use Rattle.std.proofs.Common.{◌≡◌, ℕ, ◌+◌, ◌<◌, ◌≤◌, Bool, true, false, ◌⊎◌, List, [], ◌∷◌, ◌++◌, Some, None, Option, sym, refl, ap, subst, inl, inr, arith}
 use Rattle.ways.specs.declared.row.Row.{Row}
-use Rattle.ways.specs.Way.{Hop, Joined, Leads, total, Way, Lawful, LawfulDuct}
-use Rattle.ways.specs.Options.{pick, AtMost, within, lesser, plus, through}
+use Rattle.ways.specs.Way.{Hop, Joined, Leads, total, Way, Lawful}
+use Rattle.ways.specs.Options.{pick, AtMost, lesser, through}
 use Rattle.ways.specs.Distance.{Reached, IsDistance}
 use Rattle.ways.specs.Laws.{DistanceUnique}
 

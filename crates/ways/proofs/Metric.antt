@@ -1,11 +1,11 @@
 -- The distances of a frame: one for two places, symmetric, with the triangle. Assumes nothing.
-use Rattle.std.proofs.Common.{◌≡◌, ℕ, zero, suc, ◌+◌, ◌-◌, ◌*◌, ◌<◌, ◌≤◌, ◌⊎◌, List, [], ◌∷◌, ◌++◌, length, Some, None, Option, sym, refl, ap, ◌∙◌, subst, inl, inr, arith}
+use Rattle.std.proofs.Common.{◌≡◌, ℕ, ◌+◌, ◌<◌, ◌≤◌, List, [], ◌∷◌, Some, None, Option, sym, refl, ap, ◌∙◌, subst, arith}
 use Rattle.ways.specs.declared.row.Row.{Row}
 use Rattle.ways.specs.Options.{AtMost}
-use Rattle.ways.specs.Way.{Hop, Joined, Leads, total, tos, Way, Lawful}
+use Rattle.ways.specs.Way.{Hop, Joined, Leads, total, Way, Lawful}
 use Rattle.ways.specs.Distance.{Reached, IsDistance, distance}
-use Rattle.ways.specs.Laws.{DistanceIs, DistanceSelf, DistanceSymmetric, DistanceTriangle, DistanceBounded}
-use Rattle.ways.proofs.Graph.{reached, at_most, join, one_hop, back, to_in, some_length, unique}
+use Rattle.ways.specs.Laws.{DistanceSelf, DistanceSymmetric, DistanceTriangle, DistanceBounded}
+use Rattle.ways.proofs.Graph.{reached, at_most, join, one_hop, back, to_in, some_length}
 use Rattle.ways.proofs.Simple.{Simple, simplify, few_hops, total_bound}
 use Rattle.ways.proofs.Reaches.{distance_is}
 

@@ -1,9 +1,9 @@
 -- The function `distance` tells the distance. Assumes nothing.
-use Rattle.std.proofs.Common.{◌≡◌, ℕ, zero, suc, ◌+◌, ◌<◌, ◌≤◌, Bool, true, false, eqb, ◌⊎◌, List, [], ◌∷◌, length, Some, None, Option, sym, refl, ap, ◌∙◌, subst, inl, inr, arith, eq-eqb, eqb-true}
+use Rattle.std.proofs.Common.{◌≡◌, ℕ, zero, suc, ◌+◌, ◌≤◌, Bool, true, false, eqb, List, [], ◌∷◌, length, Some, None, Option, sym, refl, subst, inl, inr, arith, eq-eqb, eqb-true}
 use Rattle.ways.specs.declared.row.Row.{Row}
 use Rattle.ways.specs.Options.{pick, AtMost, within, lesser, plus}
-use Rattle.ways.specs.Way.{Hop, Joins, Joined, Leads, total, tos, Way, Lawful}
-use Rattle.ways.specs.Distance.{Reached, IsDistance, stay, over, begun, reach, distance}
+use Rattle.ways.specs.Way.{Hop, Joined, Leads, total, tos, Way}
+use Rattle.ways.specs.Distance.{Reached, stay, over, begun, reach, distance}
 use Rattle.ways.specs.Laws.{DistanceIs}
 use Rattle.ways.proofs.Graph.{hop, is_distance, pick_has, lesser_left, lesser_right, weaken}
 use Rattle.ways.proofs.Simple.{Simple, simplify, few_hops}

@@ -1,9 +1,9 @@
 -- Ways that come to no place twice. Assumes nothing.
-use Rattle.std.proofs.Common.{◌≡◌, ℕ, zero, suc, ◌+◌, ◌*◌, ◌<◌, ◌≤◌, ◌⊎◌, List, [], ◌∷◌, ◌++◌, length, sym, refl, ap, ◌∙◌, subst, inl, inr, arith}
+use Rattle.std.proofs.Common.{◌≡◌, ℕ, zero, suc, ◌+◌, ◌*◌, ◌<◌, ◌≤◌, ◌⊎◌, List, [], ◌∷◌, length, sym, ◌∙◌, subst, inl, inr, arith}
 use native.Mathlib.Decide.{ℕ_discrete}
 use Rattle.ways.specs.declared.row.Row.{Row}
 use Rattle.ways.specs.Places.{Off, Apart, AllBelow}
-use Rattle.ways.specs.Way.{Hop, Joined, Leads, total, tos, Way, Lawful}
+use Rattle.ways.specs.Way.{Hop, Leads, total, tos, Lawful}
 use Rattle.ways.specs.Laws.{ShortestApart}
 use Rattle.ways.proofs.Graph.{to_in, some_length, no_longer}
 

@@ -1,5 +1,5 @@
 -- The distance of two places: the least length of a way between them. Assumes nothing.
-use Rattle.std.specs.Prelude.{◌≡◌, ℕ, zero, suc, ◌+◌, ◌≤◌, List, [], ◌∷◌, Some, None, Option, ◌==◌}
+use Rattle.std.specs.Prelude.{ℕ, zero, suc, ◌≤◌, List, [], ◌∷◌, Some, None, Option, ◌==◌}
 use Rattle.ways.specs.declared.row.Row.{Row}
 use Rattle.ways.specs.Way.{Hop, Leads, total, Way}
 use Rattle.ways.specs.Options.{pick, lesser, plus}

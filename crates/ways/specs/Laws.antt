@@ -1,5 +1,5 @@
 -- What is proved of ways and distances. Assumes nothing.
-use Rattle.std.specs.Prelude.{◌≡◌, ℕ, ◌+◌, ◌-◌, ◌*◌, ◌<◌, ◌≤◌, List, [], ◌∷◌, Some, None, Option}
+use Rattle.std.specs.Prelude.{◌≡◌, ℕ, ◌+◌, ◌-◌, ◌*◌, ◌<◌, ◌≤◌, List, ◌∷◌, Some, Option}
 use Rattle.ways.specs.declared.row.Row.{Row}
 use Rattle.ways.specs.Places.{Apart}
 use Rattle.ways.specs.Way.{Hop, Leads, total, tos, Lawful}

@@ -1,4 +1,4 @@
-use Rattle.std.proofs.Common.{◌≡◌, ℕ, zero, suc, ◌+◌, ◌<◌, ◌⊎◌, [], ◌∷◌, get_or, refl, inl, inr, arith}
+use Rattle.std.proofs.Common.{ℕ, zero, suc, ◌+◌, ◌<◌, [], ◌∷◌, get_or, refl, inl, inr, arith}
 use Rattle.frame.specs.Neighbours.{degree}
 use Rattle.ranking.specs.Ranking.{Before}
 use Rattle.measured.specs.Example.{ducts}

@@ -1,10 +1,8 @@
-use Rattle.std.proofs.Common.{◌≡◌, ℕ, ◌+◌, ◌<◌, ◌≤◌, List, [], ◌∷◌, ◌++◌, map, length, get_or, take, set, sym, refl, ap, ◌∙◌, subst, arith, length-set}
+use Rattle.std.proofs.Common.{◌≡◌, ℕ, ◌<◌, ◌≤◌, List, [], ◌∷◌, ◌++◌, map, length, get_or, take, sym, ap, ◌∙◌, subst, arith, length-set}
 use Rattle.std.proofs.lemmas.List.{take_more, take_more_set, take_all, map-append}
 use Rattle.std.proofs.ByRecursion.{All-get_or}
-use Rattle.job.specs.declared.fitting.Fitting.{Fitting}
 use Rattle.job.specs.Marks.{places_of, no_fitting}
-use Rattle.plan.specs.declared.group.Group.{Group}
-use Rattle.plan.specs.Groups.{members, lists}
+use Rattle.plan.specs.Groups.{lists}
 use Rattle.day.proofs.Joins.{lists_push}
 use Rattle.day.proofs.groups.fill.Goals as goal
 

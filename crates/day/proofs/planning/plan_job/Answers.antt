@@ -1,17 +1,16 @@
-use Rattle.std.proofs.Common.{◌≡◌, ℕ, ◌-◌, ◌<◌, ◌≤◌, List, [], map, length, take, Some, None, Ok, Err, Option, sym, refl, ap, ◌∙◌, subst, arith}
+use Rattle.std.proofs.Common.{◌≡◌, ℕ, ◌-◌, List, map, length, take, None, Err, sym, refl, ap, ◌∙◌, subst, arith}
 use Rattle.std.specs.List.{AllByRecursion as All}
-use Rattle.std.proofs.lemmas.List.{length-map, nil_from_length}
+use Rattle.std.proofs.lemmas.List.{length-map}
 use Rattle.oracle.specs.Meaning.{Meaning}
-use Rattle.trees.specs.Connected.{Net}
-use Rattle.job.specs.Day.{Act, groups_by}
-use Rattle.job.specs.Held.{Agrees, groups}
-use Rattle.job.specs.Marks.{places_of, fittings_of}
+use Rattle.job.specs.Day.{groups_by}
+use Rattle.job.specs.Held.{groups}
+use Rattle.job.specs.Marks.{places_of}
 use Rattle.job.specs.Places.{Fitted}
 use Rattle.job.proofs.Listings.{groups_fitted}
 use Rattle.plan.specs.Groups.{lists}
-use Rattle.plan.specs.Plans.{Joining, Planned, FewGroups, outside_groups}
+use Rattle.plan.specs.Plans.{Planned, FewGroups, outside_groups}
 use Rattle.job.specs.declared.fault.JobFault.{JobFault}
-use Rattle.day.specs.Law.{refusal, Ready, Refused, Answers, FocusAfter}
+use Rattle.day.specs.Law.{refusal, Refused, FocusAfter}
 use Rattle.day.proofs.Joins.{fitted_inside, fitted_few, refused_too, focus_too}
 use Rattle.day.proofs.planning.plan_job.Goals as goal
 

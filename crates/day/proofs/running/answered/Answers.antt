@@ -1,7 +1,7 @@
-use Rattle.std.proofs.Common.{◌≡◌, ℕ, List, [], ◌∷◌, ◌++◌, length, sym, refl, ap, ◌∙◌, subst}
+use Rattle.std.proofs.Common.{[], ◌∷◌, ◌++◌, length, sym, refl, subst}
 use Rattle.oracle.specs.Meaning.{Meaning}
 use Rattle.job.specs.declared.call.Call.{Call}
-use Rattle.job.specs.Day.{Act, plans, focuses, clears, groups_by}
+use Rattle.job.specs.Day.{plans, focuses, clears, groups_by}
 use Rattle.job.specs.Held.{Agrees}
 use Rattle.job.specs.Said.{said}
 use Rattle.job.proofs.Days.{agrees_still}

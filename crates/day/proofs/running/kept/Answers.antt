@@ -1,5 +1,4 @@
-use Rattle.std.proofs.Common.{◌≡◌, ℕ, ◌-◌, min, List, length, take, sym, refl, ap, ◌∙◌, subst, arith}
-use Rattle.ways.specs.declared.row.Row.{Row}
+use Rattle.std.proofs.Common.{◌-◌, refl, subst, arith}
 use Rattle.day.specs.Law.{Answers}
 use Rattle.day.proofs.Joins.{kept_law}
 use Rattle.day.proofs.running.kept.Goals as goal

@@ -1,9 +1,8 @@
-use Rattle.std.proofs.Common.{◌≡◌, ℕ, ◌+◌, ◌<◌, ◌≤◌, List, [], ◌∷◌, ◌++◌, map, length, get_or, take, vec_items, vec_len, sym, refl, ap, ◌∙◌, subst, arith}
+use Rattle.std.proofs.Common.{◌≡◌, ℕ, ◌+◌, ◌<◌, List, [], ◌∷◌, ◌++◌, map, length, get_or, take, vec_items, sym, ap, ◌∙◌, subst, arith}
 use Rattle.std.proofs.lemmas.List.{length-map, get_or_default}
 use Rattle.oracle.specs.Meaning.{Meaning}
 use Rattle.job.specs.declared.call.Call.{Call}
 use Rattle.job.specs.declared.call.Call.TheVariants.{Add}
-use Rattle.job.specs.Day.{Act}
 use Rattle.job.specs.Held.{Agrees}
 use Rattle.job.specs.Said.{said}
 use Rattle.day.specs.declared.answer.Answer.{Answer}

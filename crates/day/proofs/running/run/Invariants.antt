@@ -1,4 +1,4 @@
-use Rattle.std.proofs.Common.{◌≡◌, ℕ, ◌<◌, List, map, length, get_or, take, vec_items, vec_len}
+use Rattle.std.proofs.Common.{◌≡◌, map, length, take, vec_items, vec_len}
 use Rattle.job.specs.Held.{Agrees}
 use Rattle.job.specs.Said.{said}
 use Rattle.day.proofs.Days.{SoFar}

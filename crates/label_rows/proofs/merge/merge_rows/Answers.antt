@@ -1,4 +1,4 @@
-use Rattle.std.proofs.Common.{◌≡◌, ℕ, suc, ◌+◌, ◌^◌, ◌<◌, ◌≤◌, length, get_or, drop, Some, None, Option, sym, refl, ap, ◌∙◌, subst, add-one, arith, rules}
+use Rattle.std.proofs.Common.{◌≡◌, ℕ, suc, ◌+◌, ◌<◌, length, get_or, drop, Some, Option, sym, ap, ◌∙◌, add-one, arith}
 use Rattle.hubs.specs.declared.entry.Entry.{Entry}
 use Rattle.hubs.specs.Merge.{merge, sooner}
 use Rattle.hubs.specs.declared.meeting.Meeting.{Meeting}

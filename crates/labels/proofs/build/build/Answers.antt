@@ -1,13 +1,10 @@
-use Rattle.std.proofs.Common.{◌≡◌, ℕ, ◌-◌, ◌<◌, ◌≤◌, length, Ok, Err, sym, refl, ap, ◌∙◌, subst, inl, inr, arith}
+use Rattle.std.proofs.Common.{◌≡◌, ℕ, ◌-◌, length, Ok, Err, ◌∙◌, subst, arith}
 use Rattle.std.proofs.lemmas.List.{length-take-le}
 use Rattle.std.proofs.lemmas.Result.{err_from_is_err_and}
 use Rattle.heap.specs.Of.{capacity}
 use Rattle.frame.specs.Of.{places_of, rows_of}
 use Rattle.frame.proofs.Facts.{closed_few}
 use Rattle.ways.specs.Places.{Order}
-use Rattle.labels.specs.declared.memory.Sizes.{Sizes}
-use Rattle.labels.specs.Building.{memory_verdict}
-use Rattle.labels.specs.Orders.{FirstBad}
 use Rattle.labels.proofs.Verdicts.{enough, rebuilt, refused_memory, refused_order, with_room}
 use Rattle.labels.proofs.build.build.Goals as goal
 

@@ -1,4 +1,4 @@
-use Rattle.std.proofs.Common.{◌≡◌, ℕ, ◌<◌, ◌≤◌, ◌≢◌, length, get_or, sym, refl, ap, ◌∙◌, subst, arith, get_or-set_other, get_or-set_same, below_more}
+use Rattle.std.proofs.Common.{◌≡◌, ◌<◌, ◌≢◌, length, refl, ◌∙◌, arith, get_or-set_other, get_or-set_same, below_more}
 use Rattle.hubs.specs.declared.entry.Entry.{Entry}
 use Rattle.labels.specs.Table.{no_entry}
 use Rattle.labels.proofs.Fills.{everywhere}

@@ -1,4 +1,4 @@
-use Rattle.std.proofs.Common.{◌≡◌, ℕ, ◌+◌, ◌<◌, ◌≤◌, length, get_or, Some, subst, arith, below_more}
+use Rattle.std.proofs.Common.{◌≡◌, ℕ, ◌+◌, ◌<◌, get_or, Some, arith, below_more}
 use Rattle.ways.proofs.Metric.{same, not_both}
 use Rattle.labels.specs.Table.{no_entry}
 use Rattle.labels.specs.State.{laid_at}

@@ -1,6 +1,6 @@
-use Rattle.std.proofs.Common.{◌≡◌, ℕ, ◌<◌, ◌≤◌, length, get_or, refl, subst, arith}
+use Rattle.std.proofs.Common.{◌≡◌, length, refl, subst, arith}
 use Rattle.labels.specs.State.{Laid}
-use Rattle.labels.proofs.Layouts.{Laying, laying_none, laying_more}
+use Rattle.labels.proofs.Layouts.{laying_none, laying_more}
 use Rattle.labels.proofs.laying.lay.Goals as goal
 
 pub loop-e-init : goal.loop-e-init

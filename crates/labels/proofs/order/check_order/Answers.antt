@@ -1,5 +1,5 @@
-use Rattle.std.proofs.Common.{◌≡◌, ℕ, ◌<◌, ◌≤◌, length, get_or, refl, ap, ◌∙◌, inl, inr, arith}
-use Rattle.labels.proofs.Orders.{Listing, listing_none, listing_more, ordered}
+use Rattle.std.proofs.Common.{refl, inl, inr, arith}
+use Rattle.labels.proofs.Orders.{listing_none, listing_more, ordered}
 use Rattle.labels.proofs.order.check_order.Goals as goal
 
 pub loop-i-init : goal.loop-i-init

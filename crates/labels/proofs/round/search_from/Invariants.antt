@@ -1,4 +1,4 @@
-use Rattle.std.proofs.Common.{◌≡◌, ℕ, ◌+◌, length}
+use Rattle.std.proofs.Common.{◌≡◌, ◌+◌, length}
 use Rattle.heap.specs.Of.{entries, capacity}
 use Rattle.heap.specs.Order.{Heaped}
 use Rattle.heap.specs.Entries.{sooner}

@@ -1,9 +1,9 @@
-use Rattle.std.proofs.Common.{◌≡◌, ℕ, ◌+◌, ◌<◌, ◌≤◌, length, sym, refl, ◌∙◌, arith}
+use Rattle.std.proofs.Common.{◌<◌, length, refl, ◌∙◌, arith}
 use Rattle.heap.specs.Of.{entries}
 use Rattle.frame.specs.Fans.{arc_at}
 use Rattle.ways.specs.Way.{Joined}
 use Rattle.labels.specs.State.{got}
-use Rattle.labels.proofs.Marks.{Following, following_none, following_more, following_all, steady_more, steady_none, steady_on, at_all}
+use Rattle.labels.proofs.Marks.{following_none, following_more, following_all, steady_more, steady_none, steady_on, at_all}
 use Rattle.labels.proofs.steps.follow.Goals as goal
 
 pub loop-arc-init : goal.loop-arc-init

@@ -1,5 +1,5 @@
-use Rattle.std.proofs.Common.{ℕ, ◌+◌, ◌*◌, ◌<◌, ◌≤◌, length, get_or, arith, rules}
-use Rattle.labels.proofs.Tables.{inside, few_entries}
+use Rattle.std.proofs.Common.{◌+◌, length, get_or, arith}
+use Rattle.labels.proofs.Tables.{inside}
 use Rattle.labels.proofs.table.push_entry.Goals as goal
 
 pub bounds-entries-at : goal.bounds-entries-at

@@ -1,6 +1,5 @@
-use Rattle.std.proofs.Common.{◌≡◌, ℕ, ◌+◌, ◌*◌, ◌<◌, ◌≤◌, length, get_or, refl, ap, ◌∙◌, arith, rules}
-use Rattle.labels.specs.Table.{count_of}
-use Rattle.labels.proofs.Tables.{inside, few_entries, cut}
+use Rattle.std.proofs.Common.{◌+◌, ◌*◌, ◌≤◌, length, get_or, refl, arith, rules}
+use Rattle.labels.proofs.Tables.{inside, cut}
 use Rattle.labels.proofs.table.row_of.Goals as goal
 
 pub slice_bounds-result-end : goal.slice_bounds-result-end

@@ -1,12 +1,8 @@
-use Rattle.std.proofs.Common.{◌≡◌, ℕ, ◌+◌, ◌<◌, ◌≤◌, true, false, List, length, sym, refl, ap, ◌∙◌, subst, arith}
+use Rattle.std.proofs.Common.{ℕ, ◌+◌, true, false, length, refl, ◌∙◌, subst, arith}
 use Rattle.std.proofs.lemmas.Result.{err_from_is_err_and}
 use Rattle.heap.specs.Of.{entries}
-use Rattle.hubs.specs.declared.entry.Entry.{Entry}
-use Rattle.hubs.specs.Labels.{place, Rising}
-use Rattle.hubs.specs.Merge.{merge, sum_of}
-use Rattle.hubs.proofs.Hubs.{place_in}
-use Rattle.labels.specs.declared.record.Stage.TheVariants.{Cut, Hub}
-use Rattle.labels.specs.State.{Laid, Tells}
+use Rattle.hubs.specs.Labels.{place}
+use Rattle.labels.specs.declared.record.Stage.TheVariants.{Cut}
 use Rattle.labels.specs.Steps.{Chosen}
 use Rattle.labels.proofs.Visits.{settles, told_of, visit_cut, adds_cut, overfull, visit_hub}
 use Rattle.labels.proofs.visit.visit.Goals as goal

@@ -1,7 +1,4 @@
-use Rattle.std.proofs.Common.{ℕ, List, [], sym, refl, subst, append-nil, arith}
-use Rattle.std.proofs.lemmas.List.{nil_from_length}
-use Rattle.lines.specs.Text.{Numbered}
-use Rattle.lines.specs.Said.{Lists}
+use Rattle.std.proofs.Common.{refl, arith}
 use Rattle.lines.proofs.Numbers.{start, along, none_behind, shorter, finished}
 use Rattle.lines.proofs.list.listed.Goals as goal
 

@@ -1,6 +1,6 @@
-use Rattle.std.proofs.Common.{◌≡◌, ℕ, ◌+◌, ◌<◌, List, [], ◌∷◌, ◌++◌, length, set, sym, ap, ◌∙◌, arith}
+use Rattle.std.proofs.Common.{◌≡◌, arith}
 use Rattle.std.proofs.lemmas.List.{length-set, length_push}
-use Rattle.lines.specs.Said.{capped, shorts}
+use Rattle.lines.specs.Said.{capped}
 use Rattle.lines.proofs.Lists.{store, pass, shorts_yes, shorts_no}
 use Rattle.lines.proofs.list.longer.Goals as goal
 use Rattle.lines.proofs.list.longer.Goals.{then-count-lt17, else-count-lt17, then-short-count+then-n-lt-TOO_LONG, else-short-count, else-short-count-via-then-short-count+else-n-lt-TOO_LONG, else-short-count-via-else-short-count}

@@ -1,4 +1,4 @@
-use Rattle.std.proofs.Common.{◌≡◌, ℕ, length, take, subst, inl, inr, arith, rules}
+use Rattle.std.proofs.Common.{◌≡◌, ℕ, length, take, subst, arith, rules}
 use Rattle.std.specs.Str.Parse.{AllDigits}
 use Rattle.lines.proofs.Front.{digits_step, stops_at, stops_end}
 use Rattle.lines.proofs.numeral.digits.Goals as goal

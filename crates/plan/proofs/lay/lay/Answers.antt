@@ -1,5 +1,4 @@
 use Rattle.std.proofs.Common.{◌≡◌, ℕ, ◌<◌, List, length, get_or, sym, refl, ap, ◌∙◌, subst}
-use Rattle.ways.proofs.Metric.{same}
 use Rattle.oracle.specs.Meaning.{Meaning, far}
 use Rattle.trees.specs.Groups.{cost, GroupsBelow}
 use Rattle.trees.proofs.Places.{below_on}

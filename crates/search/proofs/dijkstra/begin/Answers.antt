@@ -1,11 +1,11 @@
-use Rattle.std.proofs.Common.{◌≡◌, ℕ, ◌+◌, ◌<◌, ◌≤◌, Bool, true, false, List, [], ◌∷◌, length, Some, None, sym, refl, ap, ◌∙◌, subst, arith}
+use Rattle.std.proofs.Common.{◌≡◌, ℕ, ◌<◌, false, List, [], ◌∷◌, length, Some, ap, ◌∙◌, subst, arith}
 use native.Mathlib.Decide.{ℕ_discrete}
 use Rattle.std.specs.List.Sorted.{IsPermutation}
-use Rattle.heap.specs.Of.{entries, capacity}
+use Rattle.heap.specs.Of.{entries}
 use Rattle.heap.specs.declared.search.SearchEntry.{SearchEntry}
 use Rattle.heap.proofs.Bags.{ok_part}
 use Rattle.search.specs.declared.record.Record.{Record}
-use Rattle.search.specs.State.{known, done, lit, noted}
+use Rattle.search.specs.State.{done, noted}
 use Rattle.search.proofs.Steps.{known_new, known_other, done_new, done_other, lit_same}
 use Rattle.search.proofs.dijkstra.begin.Goals as goal
 

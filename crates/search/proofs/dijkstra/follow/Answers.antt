@@ -1,4 +1,4 @@
-use Rattle.std.proofs.Common.{◌≡◌, ◌+◌, ◌<◌, ◌≤◌, length, refl, ◌∙◌, arith}
+use Rattle.std.proofs.Common.{◌+◌, refl, ◌∙◌, arith}
 use Rattle.heap.specs.Of.{entries}
 use Rattle.frame.specs.Of.{rows_of, places_of}
 use Rattle.frame.specs.Fans.{arc_at}

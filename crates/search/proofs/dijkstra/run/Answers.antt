@@ -1,5 +1,5 @@
-use Rattle.std.proofs.Common.{◌≡◌, ℕ, ◌+◌, ◌*◌, ◌<◌, ◌≤◌, true, false, List, [], length, sym, refl, ap, ◌∙◌, subst, arith, length-set}
-use Rattle.heap.specs.Of.{entries, capacity}
+use Rattle.std.proofs.Common.{◌≡◌, true, false, refl, ◌∙◌, subst, arith, length-set}
+use Rattle.heap.specs.Of.{entries}
 use Rattle.ways.specs.Way.{Joined}
 use Rattle.frame.specs.Of.{places_of, rows_of}
 use Rattle.frame.specs.Neighbours.{degree, sum_below}
@@ -9,7 +9,7 @@ use Rattle.search.specs.State.{known, done, Kept, left, settled_at}
 use Rattle.search.proofs.Counts.{left_all, left_same}
 use Rattle.search.proofs.Steps.{lit_same}
 use Rattle.search.proofs.Theory.{begun, finished}
-use Rattle.search.proofs.Visit.{Visit, visit, not_true, not_false}
+use Rattle.search.proofs.Visit.{visit, not_true, not_false}
 use Rattle.search.proofs.dijkstra.run.Goals as goal
 
 pub loop-entry-init : goal.loop-entry-init

@@ -1,4 +1,4 @@
-use Rattle.std.proofs.Common.{◌≡◌, ℕ, ◌<◌, ◌≤◌, length, ◌∙◌, arith, below_more}
+use Rattle.std.proofs.Common.{◌∙◌, arith, below_more}
 use Rattle.search.proofs.Lights.{lit_at, lit_else, lit_none}
 use Rattle.search.proofs.scan.unlight.Goals as goal
 

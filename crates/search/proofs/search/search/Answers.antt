@@ -1,9 +1,8 @@
-use Rattle.std.proofs.Common.{◌≡◌, ℕ, ◌-◌, ◌≤◌, List, ◌++◌, length, take, drop, sym, refl, ap, ◌∙◌, subst, arith, rules}
+use Rattle.std.proofs.Common.{◌≡◌, ℕ, ◌-◌, length, take, drop, ap, ◌∙◌, arith, rules}
 use Rattle.std.proofs.lemmas.List.{length-take-le}
 use borrow.Rule.Slice.PartMut.{post_of, Post-is}
 use Rattle.frame.specs.Of.{places_of, rows_of}
-use Rattle.frame.proofs.Facts.{closed_lawful, closed_ducts}
-use Rattle.search.specs.declared.record.Record.{Record}
+use Rattle.frame.proofs.Facts.{closed_lawful}
 use Rattle.search.specs.State.{lit}
 use Rattle.search.proofs.Parts.{found}
 use Rattle.search.proofs.search.search.Goals as goal

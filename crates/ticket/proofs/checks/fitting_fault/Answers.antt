@@ -1,8 +1,6 @@
-use Rattle.std.proofs.Common.{◌≡◌, ℕ, ◌≤◌, ltb, length, Ok, Err, sym, ap, ◌∙◌, arith}
+use Rattle.std.proofs.Common.{ltb, Err, sym, ap, ◌∙◌, arith}
 use Rattle.std.proofs.lemmas.Bool.{lt-ltb, le-ltb}
-use Rattle.lines.specs.Said.{shorts}
 use Rattle.ticket.specs.Faults.{limit}
-use Rattle.ticket.specs.Steps.{State}
 use Rattle.ticket.proofs.Moves.{yes_refused, not_refused, well_placed}
 use Rattle.ticket.proofs.checks.fitting_fault.Goals as goal
 

@@ -1,7 +1,5 @@
-use Rattle.std.proofs.Common.{◌≡◌, ℕ, ◌-◌, ◌≤◌, min, length, take, ap, ◌∙◌, subst, arith}
-use Rattle.lines.specs.Said.{shorts}
+use Rattle.std.proofs.Common.{◌≡◌, ℕ, ◌-◌, ◌≤◌, min, take, ap, ◌∙◌, subst, arith}
 use Rattle.ticket.specs.Runs.{Tame}
-use Rattle.ticket.specs.declared.due.Due.{Due}
 use Rattle.ticket.proofs.Moves.{front_places}
 use Rattle.ticket.proofs.Taken.{fitting_taken, fitting_refused}
 use Rattle.ticket.proofs.kinds.fitting_line.Goals as goal

@@ -1,5 +1,5 @@
-use Rattle.std.proofs.Common.{ℕ, List, sym, subst}
-use Rattle.lines.specs.Said.{Said, Formed}
+use Rattle.std.proofs.Common.{subst}
+use Rattle.lines.specs.Said.{Formed}
 use Rattle.ticket.proofs.Told.{took_did, places_told, ducts_told, duct_told, fittings_told, fitting_told}
 use Rattle.lines.specs.Said.{places, ducts, duct, fittings, fitting}
 use Rattle.ticket.proofs.read.take_line.Goals as goal

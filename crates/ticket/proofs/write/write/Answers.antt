@@ -1,4 +1,4 @@
-use Rattle.std.proofs.Common.{◌≡◌, ℕ, ◌-◌, length, take, vec_items, vec_len, vec_capacity, ap, ◌∙◌, arith}
+use Rattle.std.proofs.Common.{ℕ, ◌-◌, length, take, vec_items, vec_len, vec_capacity, ap, ◌∙◌, arith}
 use Rattle.frame.specs.Of.{places_of}
 use Rattle.ticket.specs.Tickets.{text_of}
 use Rattle.ticket.proofs.Round.{readable, exactly}

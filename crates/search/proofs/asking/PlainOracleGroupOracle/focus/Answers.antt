@@ -1,4 +1,4 @@
-use Rattle.std.proofs.Common.{◌≡◌, ℕ, ◌<◌, length, vec_items, vec_len, refl, subst, arith, rules}
+use Rattle.std.proofs.Common.{ℕ, ◌<◌, length, vec_items, vec_len, refl, subst, rules}
 use Rattle.search.proofs.Lights.{lit_more}
 use Rattle.search.proofs.asking.PlainOracleGroupOracle.focus.Goals as goal
 

@@ -1,4 +1,4 @@
-use Rattle.std.proofs.Common.{◌≡◌, ℕ, List, length, vec_items, vec_len, rc_value, sym, ap, ◌∙◌, subst, arith}
+use Rattle.std.proofs.Common.{◌≡◌, List, length, vec_items, vec_len, rc_value, sym, ◌∙◌, subst, arith}
 use Rattle.heap.specs.Of.{capacity}
 use Rattle.ways.specs.Nearest.{Nearest}
 use Rattle.frame.specs.Of.{places_of, rows_of}

@@ -1,4 +1,4 @@
-use Rattle.std.proofs.Common.{◌≡◌, ℕ, ◌+◌, ◌-◌, vec_items, vec_len, rc_value, sym, refl, ap, ◌∙◌, arith}
+use Rattle.std.proofs.Common.{◌≡◌, ◌+◌, ◌-◌, vec_items, vec_len, rc_value, refl, ap, ◌∙◌, arith}
 use Rattle.heap.specs.Of.{capacity}
 use Rattle.frame.specs.Of.{places_of, rows_of}
 use Rattle.search.proofs.Memory.{nothing_lit, cut_meaning}
