@@ -1,4 +1,4 @@
-use Rattle.std.proofs.Common.{ℕ, ◌<◌, List, get_or, take, sym, refl, ap, ◌∙◌, subst}
+use Rattle.std.proofs.Common.{ℕ, ◌<◌, List, get_or, take, sym, ap, ◌∙◌, subst}
 use Rattle.std.proofs.lemmas.List.{take_all, take_more}
 use Rattle.ways.specs.Nearest.{with_place}
 use Rattle.oracle.specs.Meaning.{Meaning}
@@ -7,14 +7,11 @@ use Rattle.trees.proofs.Places.{get_or_on, below_on}
 use Rattle.trees.proofs.Focus.{focus_push}
 use Rattle.plan.proofs.reach.load.Goals as goal
 
-pub loop-p-init : goal.loop-p-init
-loop-p-init g c = (c.clear.ensures.focus, refl)
-
 pub bring-requires : goal.bring-requires
 bring-requires g c =
     let xs : List ℕ = c.args.places.now in
     let i : ℕ = c.loop-p.p-index in
-    subst (λ (y : Meaning). get_or xs i 0 < y.count) (sym (c.loop-p.invariant.1 ∙ c.clear.ensures.same)) (below_on (g.O.DistanceOracle.meaning c.args.o.now).count (get_or xs i 0) xs c.requires (get_or_on xs i c.loop-p-test.true))
+    subst (λ (y : Meaning). get_or xs i 0 < y.count) (sym c.loop-p.invariant.1) (below_on (g.O.DistanceOracle.meaning c.args.o.now).count (get_or xs i 0) xs c.requires (get_or_on xs i c.loop-p-test.true))
 
 pub loop-p-preserved : goal.loop-p-preserved
 loop-p-preserved g c =
@@ -27,5 +24,5 @@ loop-p-preserved g c =
 pub returns : goal.returns
 returns g c = record {
   focus = c.loop-p.invariant.0 ∙ ap focus_on (take_all c.loop-p.p-index c.args.places.now c.loop-p-test.false);
-  same = c.loop-p.invariant.1 ∙ c.clear.ensures.same;
+  same = c.loop-p.invariant.1;
 }
