@@ -2,7 +2,7 @@
 use Rattle.std.proofs.Common.{◌≡◌, ℕ, ◌-◌, ◌*◌, ◌≤◌, min, Bool, true, false, List, [], ◌∷◌, ◌++◌, map, length, take, drop, is_err, IfOk, Some, None, Ok, Err, vec_items, Option, Result, sym, refl, ap, ◌∙◌, subst, arith, lt-ltb}
 use mathlib.Core.Path.{transport}
 use Rattle.std.proofs.lemmas.List.{length-append, take_at}
-use Rattle.std.specs.List.{AllByRecursion as All}
+use Rattle.std.specs.List.{AllByRecursion}
 use Rattle.ways.specs.Options.{pick}
 use Rattle.ways.specs.Places.{AllBelow}
 use Rattle.job.specs.declared.fitting.Fitting.{Fitting}
@@ -38,12 +38,12 @@ outside_none n [] h = refl
 outside_none n (p ∷ ps) h = ap (λ (b : Bool). pick b (outside n ps) (Some p)) (lt-ltb p n h.0) ∙ outside_none n ps h.1
 
 -- lawful fittings have no place outside
-pub fitted_inside : (n : ℕ) (gs : List (List ℕ)) → All (Fitted n) gs → outside_groups n gs ≡ None
+pub fitted_inside : (n : ℕ) (gs : List (List ℕ)) → AllByRecursion (Fitted n) gs → outside_groups n gs ≡ None
 fitted_inside n [] h = refl
 fitted_inside n (g ∷ gs) h = ap (λ (o : Option ℕ). or_else o (outside_groups n gs)) (outside_none n g h.0.inside) ∙ fitted_inside n gs h.1
 
 -- what holds of each fitting's places holds of each fitting
-pub fitted_few : (n : ℕ) (fs : List Fitting) → All (Fitted n) (map places_of fs) → All (λ x. length (places_of x) ≤ 16) fs
+pub fitted_few : (n : ℕ) (fs : List Fitting) → AllByRecursion (Fitted n) (map places_of fs) → AllByRecursion (λ x. length (places_of x) ≤ 16) fs
 fitted_few n [] h = tt
 fitted_few n (f ∷ fs) h = (h.0.few, fitted_few n fs h.1)
 

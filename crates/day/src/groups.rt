@@ -1,6 +1,6 @@
 // The standing fittings of a job, as groups to be planned for.
 ghost use Rattle.std.specs.Prelude.{◌≡◌, ◌≤◌, map, length, take};
-ghost use Rattle.std.specs.List.{AllByRecursion as All};
+ghost use Rattle.std.specs.List.{AllByRecursion};
 ghost use Rattle.job.specs.declared.fitting.Fitting.{Fitting};
 ghost use Rattle.job.specs.Marks.{places_of};
 ghost use Rattle.plan.specs.Groups.{members, lists};
@@ -26,7 +26,7 @@ fn group_of(places: &[u32]) -> Group
 // Writes the groups of these fittings at the beginning.
 pub(crate) fn fill(fittings: &[Fitting], groups: &mut [Group])
     requires room { length fittings.now ≤ length groups.old }
-    requires few { All (λ x. length (places_of x) ≤ 16) fittings.now }
+    requires few { AllByRecursion (λ x. length (places_of x) ≤ 16) fittings.now }
     ensures { lists (take (length fittings.now) groups.new) ≡ map places_of fittings.now }
 {
     for (i, fitting) in fittings.iter().enumerate() {

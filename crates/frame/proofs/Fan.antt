@@ -6,7 +6,7 @@ use Rattle.std.specs.Ordering.{is_lt, nat_cmp, ordering_then}
 use Rattle.std.proofs.lemmas.List.Sorted.{IsNonDecreasingBy-from_all_adjacent}
 use Rattle.std.proofs.lemmas.Bool.{ltb-false, eqb-false}
 use Rattle.std.proofs.Common.{Ordering, Less, Equal, Greater, Bool, true, false, cond, nat_lt, ◌==◌, eqb-true}
-use Rattle.std.specs.List.{AllByRecursion as All}
+use Rattle.std.specs.List.{AllByRecursion}
 use Rattle.std.proofs.ByRecursion.{All-get_or, All-from_get_or, all_shuffled}
 use Rattle.std.proofs.lemmas.List.{append_assoc, get_or_at}
 use Rattle.std.proofs.lemmas.List.Sorted.{IsPermutation-sym, sum_by-IsPermutation}
@@ -23,16 +23,16 @@ abbrev Small : Arc → Type 0
 Small a = (a.to < 4294967296) × (a.duct < 4294967296)
 
 -- the arcs of a frame are small
-small : (n k : ℕ) (ds : List Row) → n ≤ 4096 → Lawful n ds → k + length ds ≤ 65536 → All Small (arcs_from k ds)
+small : (n k : ℕ) (ds : List Row) → n ≤ 4096 → Lawful n ds → k + length ds ≤ 65536 → AllByRecursion Small (arcs_from k ds)
 small n k [] few l h = tt
 small n k (d ∷ ds) few l h =
     ((omega (arith, l.0.second_in), omega arith), ((omega (arith, l.0.first_in), omega arith), small n (k + 1) ds few l.1 (omega arith)))
 
 -- and so they are in any order
-all_small : (n : ℕ) (ds : List Row) (xs arcs : List Arc) → Kept n ds → xs ≡ arcs_from 0 ds → IsPermutation xs arcs → All Small arcs
+all_small : (n : ℕ) (ds : List Row) (xs arcs : List Arc) → Kept n ds → xs ≡ arcs_from 0 ds → IsPermutation xs arcs → AllByRecursion Small arcs
 all_small n ds xs arcs h is bag =
     let s = unkept n ds h in
-    all_shuffled Small xs arcs bag (subst (All Small) (sym is) (small n 0 ds s.few s.lawful (omega (arith, s.few_ducts))))
+    all_shuffled Small xs arcs bag (subst (AllByRecursion Small) (sym is) (small n 0 ds s.few s.lawful (omega (arith, s.few_ducts))))
 
 -- how arcs compare: by where they begin, then where they end, then their duct, then its length
 abbrev by_parts : Arc → Arc → Ordering
@@ -42,7 +42,7 @@ at_number : (ds : List Row) (k : ℕ) (d : Row) (u w : ℕ) → k < length ds �
 at_number ds k d u w l e s = (l, subst (λ (x : Row). Joins x u w d.length) (sym e) (refl, s))
 
 -- an arc's number is that of its duct
-arcs_named : (k : ℕ) (ps bs ds : List Row) → length ps ≡ k → ds ≡ ps ++ bs → All (Named ds) (arcs_from k bs)
+arcs_named : (k : ℕ) (ps bs ds : List Row) → length ps ≡ k → ds ≡ ps ++ bs → AllByRecursion (Named ds) (arcs_from k bs)
 arcs_named k ps [] ds n e = tt
 arcs_named k ps (d ∷ bs) ds n e =
     let l : k < length ds = omega (arith, ap length e, length-append ps (d ∷ bs)) in
@@ -55,7 +55,7 @@ arcs_named k ps (d ∷ bs) ds n e =
     )
 
 -- each duct has its arc
-joined_arcs : (k : ℕ) (ds : List Row) (v w len : ℕ) → Joined ds v w len → All (λ a. a.from ≡ v → a.to ≡ w → a.length ≡ len → ⊥) (arcs_from k ds) → ⊥
+joined_arcs : (k : ℕ) (ds : List Row) (v w len : ℕ) → Joined ds v w len → AllByRecursion (λ a. a.from ≡ v → a.to ≡ w → a.length ≡ len → ⊥) (arcs_from k ds) → ⊥
 joined_arcs k [] v w len j h = j
 joined_arcs k (d ∷ ds) v w len (inl (e, inl p)) h = h.0 p.0 p.1 e
 joined_arcs k (d ∷ ds) v w len (inl (e, inr p)) h = h.1.0 p.1 p.0 e

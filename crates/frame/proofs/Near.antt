@@ -1,6 +1,6 @@
 -- The arcs of one place, as a list of their own. Assumes nothing.
 use Rattle.std.proofs.Common.{◌≡◌, ℕ, suc, ◌+◌, ◌-◌, ◌<◌, ◌≤◌, List, [], ◌∷◌, length, get_or, take, drop, sum_by, sym, ap, ◌∙◌, subst, arith, length-drop, length-take}
-use Rattle.std.specs.List.{AllByRecursion as All}
+use Rattle.std.specs.List.{AllByRecursion}
 use Rattle.std.proofs.ByRecursion.{All-from_get_or, All-get_or}
 use Rattle.std.proofs.lemmas.List.{get_or-take, get_or-drop, get_or_default}
 use Rattle.ways.specs.declared.row.Row.{Row}
@@ -21,7 +21,7 @@ count_once : (n : ℕ) (ds : List Row) (v : ℕ) (ls : List Arc) → Lawful n ds
 count_once n ds v ls l e = sym (sum_ones ls) ∙ e ∙ degree_weight n 0 v ds l
 
 -- no duct touches what is no place
-no_weight : (n k v : ℕ) (ds : List Row) (f : Arc → ℕ) → n ≤ v → Lawful n ds → All (λ a. weight f v a ≡ 0) (arcs_from k ds)
+no_weight : (n k v : ℕ) (ds : List Row) (f : Arc → ℕ) → n ≤ v → Lawful n ds → AllByRecursion (λ a. weight f v a ≡ 0) (arcs_from k ds)
 no_weight n k v [] f out l = tt
 no_weight n k v (d ∷ ds) f out l = (
   weight_off f v _ (λ e. omega (arith, e, l.0.first_in)),
@@ -82,7 +82,7 @@ module _ (n : ℕ) (ds : List Row) (offs : List ℕ) (arcs : List Arc) (f : Fann
     read : (i : ℕ) → i < hi - lo → get_or (take (hi - lo) (drop lo arcs)) i no_arc ≡ arc_at arcs (lo + i)
     read i l = get_or-take (hi - lo) (drop lo arcs) i no_arc l ∙ get_or-drop lo arcs i no_arc
 
-    each : (P : Arc → Type 0) → ((i : ℕ) → lo ≤ i → i < hi → P (arc_at arcs i)) → All P (take (hi - lo) (drop lo arcs))
+    each : (P : Arc → Type 0) → ((i : ℕ) → lo ≤ i → i < hi → P (arc_at arcs i)) → AllByRecursion P (take (hi - lo) (drop lo arcs))
     each P h = All-from_get_or P (take (hi - lo) (drop lo arcs)) no_arc (λ i l.
         let k : i < hi - lo = subst (λ (x : ℕ). i < x) size l in
         subst P (sym (read i k)) (h (lo + i) (omega arith) (omega arith)))

@@ -1,7 +1,7 @@
 -- What holds of the rows of a frame, and that an accepted row keeps it. Assumes nothing.
 use Rattle.std.proofs.Common.{◌≡◌, ℕ, suc, ◌+◌, ◌<◌, ◌≤◌, Bool, true, false, ◌&&◌, eqb, ltb, leb, List, [], ◌∷◌, ◌++◌, length, sym, refl, ap, ◌∙◌, arith}
 use native.Mathlib.Decide.{ℕ_discrete, dec_le}
-use Rattle.std.specs.List.{AllByRecursion as All}
+use Rattle.std.specs.List.{AllByRecursion}
 use Rattle.std.proofs.ByRecursion.{All-get_or, All-push}
 use Rattle.std.proofs.lemmas.List.{get_or_append_left, get_or_push, length_push}
 use Rattle.std.proofs.lemmas.Bool.{ltb-false, leb-false, eq-eqb, and_from, or_parts, both_ways}
@@ -33,7 +33,7 @@ all_lawful n (d ∷ ds) h = (
   all_lawful n ds (λ k. h (λ l. k l.1)),
 )
 
-all_ordered : (ds : List Row) → ((All (λ d. d.first < d.second) ds → ⊥) → ⊥) → All (λ d. d.first < d.second) ds
+all_ordered : (ds : List Row) → ((AllByRecursion (λ d. d.first < d.second) ds → ⊥) → ⊥) → AllByRecursion (λ d. d.first < d.second) ds
 all_ordered [] h = tt
 all_ordered (d ∷ ds) h = (le (suc d.first) d.second (λ k. h (λ l. k l.0)), all_ordered ds (λ k. h (λ l. k l.1)))
 
@@ -50,7 +50,7 @@ unkept n rows h = record {
 lawful_get_or : (n : ℕ) (rows : List Row) (i : ℕ) → i < length rows → Lawful n rows → LawfulDuct n (row_at rows i)
 lawful_get_or n rows i l h = All-get_or (LawfulDuct n) rows i no_row l (all rows h)
   where
-    all : (ds : List Row) → Lawful n ds → All (LawfulDuct n) ds
+    all : (ds : List Row) → Lawful n ds → AllByRecursion (LawfulDuct n) ds
     all [] k = tt
     all (d ∷ ds) k = (k.0, all ds k.1)
 
@@ -106,7 +106,7 @@ lawful_push n [] d l h = (h, tt)
 lawful_push n (x ∷ xs) d l h = (l.0, lawful_push n xs d l.1 h)
 
 -- where no row has these ends, each row has others
-unpaired : (rows : List Row) (a b : ℕ) → paired rows a b ≡ false → All (λ d. d.first ≡ a → d.second ≡ b → ⊥) rows
+unpaired : (rows : List Row) (a b : ℕ) → paired rows a b ≡ false → AllByRecursion (λ d. d.first ≡ a → d.second ≡ b → ⊥) rows
 unpaired [] a b e = tt
 unpaired (d ∷ ds) a b e =
     let parts = or_parts (eqb d.first a && eqb d.second b) (paired ds a b) e in

@@ -1,6 +1,6 @@
 -- What the arcs of one place sum up to. Assumes nothing.
 use Rattle.std.proofs.Common.{◌≡◌, ℕ, ◌+◌, ◌-◌, ◌<◌, ◌≤◌, Bool, cond, List, [], ◌∷◌, ◌++◌, length, get_or, take, drop, sum_by, sym, refl, ap, ◌∙◌, arith, length-drop, length-take}
-use Rattle.std.specs.List.{AllByRecursion as All}
+use Rattle.std.specs.List.{AllByRecursion}
 use Rattle.std.proofs.ByRecursion.{All-from_get_or}
 use Rattle.std.proofs.lemmas.List.{get_or-take, get_or-drop, take-append-drop}
 use Rattle.std.proofs.lemmas.List.Sums.{sum_by-cons, sum_by-append}
@@ -9,16 +9,16 @@ use Rattle.frame.specs.declared.arc.Arc.{Arc}
 use Rattle.frame.specs.Fans.{no_arc, arc_at, weight}
 
 module _ {X : Type 0} where
-  sum_same : (f g : X → ℕ) (xs : List X) → All (λ x. f x ≡ g x) xs → sum_by f xs ≡ sum_by g xs
+  sum_same : (f g : X → ℕ) (xs : List X) → AllByRecursion (λ x. f x ≡ g x) xs → sum_by f xs ≡ sum_by g xs
   sum_same f g [] h = refl
   sum_same f g (x ∷ xs) h = omega (arith, h.0, sum_same f g xs h.1, sum_by-cons f x xs, sum_by-cons g x xs)
 
-  pub sum_none : (f : X → ℕ) (xs : List X) → All (λ x. f x ≡ 0) xs → sum_by f xs ≡ 0
+  pub sum_none : (f : X → ℕ) (xs : List X) → AllByRecursion (λ x. f x ≡ 0) xs → sum_by f xs ≡ 0
   sum_none f [] h = refl
   sum_none f (x ∷ xs) h = omega (arith, h.0, sum_none f xs h.1, sum_by-cons f x xs)
 
   -- f counts in the middle, and g everywhere, where it is nothing elsewhere
-  sum_middle : (f g : X → ℕ) (ps bs cs xs : List X) → xs ≡ ps ++ (bs ++ cs) → All (λ x. g x ≡ 0) ps → All (λ x. f x ≡ g x) bs → All (λ x. g x ≡ 0) cs → sum_by f bs ≡ sum_by g xs
+  sum_middle : (f g : X → ℕ) (ps bs cs xs : List X) → xs ≡ ps ++ (bs ++ cs) → AllByRecursion (λ x. g x ≡ 0) ps → AllByRecursion (λ x. f x ≡ g x) bs → AllByRecursion (λ x. g x ≡ 0) cs → sum_by f bs ≡ sum_by g xs
   sum_middle f g ps bs cs xs e a b c =
       omega (arith, ap (sum_by g) e, sum_by-append g ps (bs ++ cs), sum_by-append g bs cs, sum_none g ps a, sum_none g cs c, sum_same f g bs b)
 

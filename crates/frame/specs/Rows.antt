@@ -1,6 +1,6 @@
 -- Rows that are ducts, and what holds of the rows of a frame. Assumes nothing.
 use Rattle.std.specs.Prelude.{◌≡◌, ℕ, ◌<◌, ◌≤◌, Bool, false, ◌&&◌, ◌||◌, List, [], ◌∷◌, length, ◌==◌, ◌≢◌, slice_index_or}
-use Rattle.std.specs.List.{AllByRecursion as All}
+use Rattle.std.specs.List.{AllByRecursion}
 use Rattle.ways.specs.declared.row.Row.{Row}
 use Rattle.ways.specs.Way.{Lawful}
 
@@ -28,7 +28,7 @@ pub record Sound (n : ℕ) (rows : List Row) : Type 0 where
   pub few : n ≤ 4096
   pub few_ducts : length rows ≤ 16384
   pub lawful : Lawful n rows
-  pub ordered : All (λ d. d.first < d.second) rows
+  pub ordered : AllByRecursion (λ d. d.first < d.second) rows
   pub single : (i j : ℕ) → i < j → j < length rows → (row_at rows i).first ≡ (row_at rows j).first → (row_at rows i).second ≢ (row_at rows j).second
 
 -- the same, as a ghost field can hold it

@@ -3,7 +3,7 @@ use Rattle.std.proofs.Common.{◌≡◌, ℕ, zero, suc, ◌+◌, ◌/◌, ◌^�
 use native.Mathlib.Nat.{div-eq_of_lt}
 use lib.Count.{ones, ones_step}
 use Rattle.std.specs.Option.{option_to_list}
-use Rattle.std.specs.List.{AllByRecursion as All}
+use Rattle.std.specs.List.{AllByRecursion}
 use Rattle.std.proofs.ByRecursion.{All-append}
 use Rattle.std.proofs.lemmas.List.{append-nil}
 use Rattle.std.proofs.lemmas.Bool.{lt-ltb}
@@ -34,7 +34,7 @@ unfolding below
 below_none on = refl
 
 -- what holds of each standing fitting holds of all those below k, and these are at most k
-pub all_below : (P : List ℕ → Type 0) (k : ℕ) (on : Standing) → ((f : ℕ) → IfSome (on f) P) → All P (below k on) × (length (below k on) ≤ k)
+pub all_below : (P : List ℕ → Type 0) (k : ℕ) (on : Standing) → ((f : ℕ) → IfSome (on f) P) → AllByRecursion P (below k on) × (length (below k on) ≤ k)
 unfolding below
 all_below P zero on h = (tt, omega arith)
 all_below P (suc k) on h =
@@ -42,7 +42,7 @@ all_below P (suc k) on h =
     let s = one (on k) (h k) in
     (All-append P (below k on) (option_to_list (on k)) r.0 s.0, omega (arith, length-append (below k on) (option_to_list (on k)), r.1, s.1))
   where
-    one : (o : Option (List ℕ)) → IfSome o P → All P (option_to_list o) × (length (option_to_list o) ≤ 1)
+    one : (o : Option (List ℕ)) → IfSome o P → AllByRecursion P (option_to_list o) × (length (option_to_list o) ≤ 1)
     one None e = (tt, omega arith)
     one (Some ps) e = ((e, tt), omega arith)
 
@@ -55,7 +55,7 @@ held_fitted job f = go (marked job.heading.standing f) refl
     go false e = tt
 
 -- what a job has a plan reach: at most 64 groups of 1 to 16 places below n, strictly rising
-pub groups_fitted : (job : Job) → All (Fitted job.heading.places) (groups job) × (length (groups job) ≤ 64)
+pub groups_fitted : (job : Job) → AllByRecursion (Fitted job.heading.places) (groups job) × (length (groups job) ≤ 64)
 groups_fitted job = all_below (Fitted job.heading.places) 64 (held job) (held_fitted job)
 
 -- one mark more

@@ -1,6 +1,6 @@
 -- What is proved of every day. Assumes nothing.
 use Rattle.std.specs.Prelude.{◌≡◌, ℕ, ◌<◌, ◌≤◌, List, length, take, Some, None, slice_index_or}
-use Rattle.std.specs.List.{AllByRecursion as All}
+use Rattle.std.specs.List.{AllByRecursion}
 use Rattle.job.specs.Day.{Act, adds, drops, plans, Standing, verdict, standing_by, groups_by}
 use Rattle.job.specs.Places.{Fitted}
 
@@ -31,7 +31,7 @@ NoneAbove = (n : ℕ) (calls : List Act) (f : ℕ) → 64 ≤ f → standing_by 
 
 -- whatever stands has lawful places, and 64 fittings stand at most
 abbrev pub AllFitted : Type 0
-AllFitted = (n : ℕ) (calls : List Act) → All (Fitted n) (groups_by n calls) × (length (groups_by n calls) ≤ 64)
+AllFitted = (n : ℕ) (calls : List Act) → AllByRecursion (Fitted n) (groups_by n calls) × (length (groups_by n calls) ≤ 64)
 
 -- an add is accepted exactly where its number is at most 63, its places are lawful and its fitting does not stand
 abbrev pub AcceptedAdd : Type 0

@@ -1,6 +1,6 @@
 // The fittings that stand, one after the other, as a plan goes through them.
 ghost use Rattle.std.specs.Prelude.{◌≡◌, ℕ, List, map};
-ghost use Rattle.std.specs.List.{AllByRecursion as All};
+ghost use Rattle.std.specs.List.{AllByRecursion};
 ghost use Rattle.job.specs.Day.{Act, groups_by};
 ghost use Rattle.job.specs.Held.{Agrees, groups};
 ghost use Rattle.job.specs.Marks.{places_of, fittings_of};
@@ -24,7 +24,7 @@ impl Job {
     pub fn listed(&self) -> Listed
         ensures value { map places_of (fittings_of result) ≡ groups self.now }
         ensures day { (n : ℕ) (calls : List Act) → Agrees n calls self.now → map places_of (fittings_of result) ≡ groups_by n calls }
-        ensures fitted { All (Fitted self.now.heading.places) (groups self.now) }
+        ensures fitted { AllByRecursion (Fitted self.now.heading.places) (groups self.now) }
     {
         let mut fittings = [Fitting {
             used: 0,

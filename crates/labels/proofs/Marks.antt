@@ -1,7 +1,7 @@
 -- What the writes of a pruned search leave. Assumes nothing.
 use Rattle.std.proofs.Common.{◌≡◌, ℕ, zero, suc, ◌+◌, ◌<◌, ◌≤◌, Bool, true, false, eqb, List, [], ◌∷◌, length, get_or, set, Some, None, Option, sym, refl, ap, ◌∙◌, subst, inl, inr, arith, get_or-set_other, get_or-set_same, eq-eqb}
 use native.Mathlib.Decide.{ℕ_discrete, dec_le}
-use Rattle.std.specs.List.{AllByRecursion as All}
+use Rattle.std.specs.List.{AllByRecursion}
 use Rattle.std.specs.List.Sorted.{IsPermutation}
 use Rattle.heap.specs.declared.search.SearchEntry.{SearchEntry}
 use Rattle.search.proofs.Theory as theory
@@ -146,11 +146,11 @@ by_test (Some d) t h = go (dec_le d t)
     go (no gt) = absurd (h gt)
 
 -- a fact of every position is one of all
-all_at : (P : Arc → Type 0) (ls : List Arc) → ((i : ℕ) → i < length ls → P (arc_at ls i)) → All P ls
+all_at : (P : Arc → Type 0) (ls : List Arc) → ((i : ℕ) → i < length ls → P (arc_at ls i)) → AllByRecursion P ls
 all_at P [] h = tt
 all_at P (a ∷ ls) h = (h 0 (omega arith), all_at P ls (λ i l. h (suc i) (omega arith)))
 
-pub at_all : (P : Arc → Type 0) (ls : List Arc) → All P ls → (i : ℕ) → i < length ls → P (arc_at ls i)
+pub at_all : (P : Arc → Type 0) (ls : List Arc) → AllByRecursion P ls → (i : ℕ) → i < length ls → P (arc_at ls i)
 at_all P [] h i l = absurd (omega arith)
 at_all P (a ∷ ls) h zero l = h.0
 at_all P (a ∷ ls) h (suc i) l = at_all P ls h.1 i (omega arith)

@@ -1,7 +1,7 @@
 -- The theory of the pruned search: no code. Assumes nothing.
 use Rattle.std.proofs.Common.{◌≡◌, ℕ, ◌+◌, ◌<◌, ◌≤◌, Bool, true, false, ◌⊎◌, List, [], ◌∷◌, Some, None, Option, sym, refl, ap, ◌∙◌, subst, inl, inr, arith}
 use native.Mathlib.Decide.{ℕ_discrete, dec_le}
-use Rattle.std.specs.List.{AllByRecursion as All}
+use Rattle.std.specs.List.{AllByRecursion}
 use Rattle.std.specs.List.Sorted.{IsPermutation}
 use Rattle.std.proofs.ByRecursion.{All-weaker, all_shuffled}
 use Rattle.std.proofs.lemmas.List.Sorted.{IsPermutation-sym}
@@ -52,7 +52,7 @@ less_down : (c d : ℕ) (o : Option ℕ) → c ≤ d → Less d o → Less c o
 less_down c d None l h = tt
 less_down c d (Some z) l h = omega arith
 
-all_and : {X : Type 0} (P Q : X → Type 0) (xs : List X) → All P xs → All Q xs → All (λ x. P x × Q x) xs
+all_and : {X : Type 0} (P Q : X → Type 0) (xs : List X) → AllByRecursion P xs → AllByRecursion Q xs → AllByRecursion (λ x. P x × Q x) xs
 all_and P Q [] p q = tt
 all_and P Q (x ∷ xs) p q = ((p.0, q.0), all_and P Q xs p.1 q.1)
 
@@ -62,11 +62,11 @@ waits_less q q' e k v bag ne w = λ all. w (all_shuffled (λ e. e.distance ≡ k
 
 -- the least entry is taken out
 module _ (ds : List Row) (tells : ℕ → Option ℕ) (s floor : ℕ) (N : ℕ → Option ℕ) (D : ℕ → Bool) (got : ℕ → Option ℕ) (q q' : List SearchEntry) (e : SearchEntry)
-    (p : Pruning ds (Due ds got) tells s floor N D got q) (bag : IsPermutation q (e ∷ q')) (first : All (λ y. e.distance ≤ y.distance) q) where
+    (p : Pruning ds (Due ds got) tells s floor N D got q) (bag : IsPermutation q (e ∷ q')) (first : AllByRecursion (λ y. e.distance ≤ y.distance) q) where
   abbrev InTurn : ℕ → SearchEntry → Type 0
   InTurn f y = (f ≤ y.distance) × AtMost (N y.place) y.distance
 
-  moved : InTurn floor e × All (InTurn floor) q'
+  moved : InTurn floor e × AllByRecursion (InTurn floor) q'
   moved = all_shuffled (InTurn floor) q (e ∷ q') bag p.kept.listed
 
   pub known_place : AtMost (N e.place) e.distance

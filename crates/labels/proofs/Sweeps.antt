@@ -1,7 +1,7 @@
 -- The loop of a pruned search. Assumes nothing.
 use Rattle.std.proofs.Common.{◌≡◌, ℕ, ◌+◌, ◌*◌, ◌<◌, ◌≤◌, Bool, true, false, cond, eqb, ltb, leb, ◌⊎◌, List, [], ◌∷◌, length, get_or, set, Some, None, Option, sym, refl, ap, ◌∙◌, subst, inl, inr, arith, eq-eqb, ne_eqb}
 use native.Mathlib.Decide.{ℕ_discrete, dec_le}
-use Rattle.std.specs.List.{AllByRecursion as All}
+use Rattle.std.specs.List.{AllByRecursion}
 use Rattle.std.specs.List.Sorted.{IsPermutation}
 use Rattle.std.proofs.ByRecursion.{All-weaker}
 use Rattle.std.proofs.lemmas.List.{get_or_past}
@@ -119,11 +119,11 @@ nearer a b p q h = go (ltb a b) refl (eqb a b) refl (leb p q) h
 -- the least entry is taken out
 module _ (n : ℕ) (ds : List Row) (order : List ℕ) (w r : ℕ) (row : ℕ → List Entry) (cap : ℕ) (counts : List ℕ) (entries : List Entry) (rs : List Record) (q q' : List SearchEntry) (e : SearchEntry)
     (sweep : Sweep n ds order w r row cap counts entries rs q) (ready : Ready n ds order r row) (few : n ≤ 4096) (size : length rs ≡ n)
-    (bag : IsPermutation q (e ∷ q')) (before : All (λ y. sooner e y ≡ true) q) (fewer : length q' + 1 ≡ length q) where
+    (bag : IsPermutation q (e ∷ q')) (before : AllByRecursion (λ y. sooner e y ≡ true) q) (fewer : length q' + 1 ≡ length q) where
   k : ℕ
   k = r + 1
 
-  first : All (λ y. e.distance ≤ y.distance) q
+  first : AllByRecursion (λ y. e.distance ≤ y.distance) q
   first = All-weaker (λ y. sooner e y ≡ true) (λ y. e.distance ≤ y.distance) (λ y h. nearer e.distance y.distance e.place y.place h) q before
 
   p : Pruning ds (Due ds (got (r + 1) rs)) (said order row r) (place order r) sweep.floor (known (r + 1) rs) (done (r + 1) rs) (got (r + 1) rs) q

@@ -1,7 +1,7 @@
 -- One place of a pruned search. Assumes nothing.
 use Rattle.std.proofs.Common.{◌≡◌, ℕ, ◌+◌, ◌<◌, ◌≤◌, Bool, true, false, eqb, ◌⊎◌, List, [], ◌∷◌, ◌++◌, length, get_or, set, Some, None, Option, sym, refl, ap, ◌∙◌, subst, inl, inr, arith}
 use native.Mathlib.Decide.{ℕ_discrete}
-use Rattle.std.specs.List.{AllByRecursion as All}
+use Rattle.std.specs.List.{AllByRecursion}
 use Rattle.std.specs.List.Sorted.{IsPermutation}
 use Rattle.heap.specs.declared.search.SearchEntry.{SearchEntry}
 use Rattle.frame.specs.declared.arc.Arc.{Arc}
@@ -34,7 +34,7 @@ laid_keep k rs rs' ys i a b l = record { only = λ r c e. l.only r c (sym (same_
     same_at r = λ i. pick (eqb (a r i) k) (Some (b r i)) None
 
 -- the row of a place that waits is as it was
-pub row_was : (n : ℕ) (ds : List Row) (order : List ℕ) (w r : ℕ) (row : ℕ → List Entry) (e : SearchEntry) (counts : List ℕ) (entries : List Entry) (rs : List Record) (q q' : List SearchEntry) (floor : ℕ) → Searching n ds order w r row floor counts entries rs q → IsPermutation q (e ∷ q') → All (λ y. e.distance ≤ y.distance) q → done (r + 1) rs e.place ≡ false → e.place < n → row_in w counts entries e.place ≡ row e.place
+pub row_was : (n : ℕ) (ds : List Row) (order : List ℕ) (w r : ℕ) (row : ℕ → List Entry) (e : SearchEntry) (counts : List ℕ) (entries : List Entry) (rs : List Record) (q q' : List SearchEntry) (floor : ℕ) → Searching n ds order w r row floor counts entries rs q → IsPermutation q (e ∷ q') → AllByRecursion (λ y. e.distance ≤ y.distance) q → done (r + 1) rs e.place ≡ false → e.place < n → row_in w counts entries e.place ≡ row e.place
 row_was n ds order w r row e counts entries rs q q' floor s bag first waiting iv =
     subst (λ (o : Option ℕ). Written ds order r (got (r + 1) rs) e.place o (row e.place) (row_in w counts entries e.place)) (theory.no_hub_yet ds (said order row r) (place order r) floor (known (r + 1) rs) (done (r + 1) rs) (got (r + 1) rs) q q' e s.pruning bag first waiting) (s.written e.place iv)
 

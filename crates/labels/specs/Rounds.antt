@@ -1,6 +1,6 @@
 -- What a round of building keeps of the memory. Assumes nothing.
 use Rattle.std.specs.Prelude.{◌≡◌, ℕ, ◌+◌, ◌<◌, ◌≤◌, true, false, ◌⊎◌, List, ◌∷◌, length, Some, Ok, Err, Result, ◌≢◌}
-use Rattle.std.specs.List.{AllByRecursion as All}
+use Rattle.std.specs.List.{AllByRecursion}
 use Rattle.std.specs.List.Sorted.{IsPermutation}
 use Rattle.heap.specs.declared.search.SearchEntry.{SearchEntry}
 use Rattle.frame.specs.declared.arc.Arc.{Arc}
@@ -56,7 +56,7 @@ pub record Visiting (n : ℕ) (ds : List Row) (order : List ℕ) (w r : ℕ) (ro
   pub ready : Ready n ds order r row
   pub arcs_are : Neighbours ds e.place arcs
   pub bag : IsPermutation q (e ∷ q')
-  pub first : All (λ y. e.distance ≤ y.distance) q
+  pub first : AllByRecursion (λ y. e.distance ≤ y.distance) q
   pub floor : ℕ
   pub searching : Searching n ds order w r row floor counts entries rs q
   pub waiting : done (r + 1) rs e.place ≡ false

@@ -3,7 +3,7 @@ ghost use Rattle.std.specs.Prelude.{◌≡◌, ℕ, ◌+◌, ◌*◌, ◌<◌, �
 ghost use Rattle.std.specs.List.Sorted.{IsPermutation};
 ghost use Rattle.heap.specs.Order.{Heaped};
 ghost use Rattle.heap.specs.Entries.{sooner};
-ghost use Rattle.heap.specs.Of.{entries as entries-of, capacity};
+ghost use Rattle.heap.specs.Of.{entries as entries_of, capacity};
 ghost use Rattle.frame.specs.Of.{places_of, rows_of};
 ghost use Rattle.labels.specs.Table.{row_in, Fits, Behind};
 ghost use Rattle.labels.specs.State.{blank, settled_in, first_record, Upto};
@@ -34,10 +34,10 @@ fn is_settled(mark: Record, round: u32) -> bool
 fn begin(records: &mut [Record], queue: &mut Heap<SearchEntry>, round: u32, source: u32)
     requires within { source < length records.old }
     requires room { 0 < capacity queue.old }
-    ensures heaped { Heaped sooner (entries-of queue.new) }
+    ensures heaped { Heaped sooner (entries_of queue.new) }
     ensures room { capacity queue.new ≡ capacity queue.old }
-    ensures one { length (entries-of queue.new) ≡ 1 }
-    ensures bag { IsPermutation (record { distance = 0; place = source } ∷ []) (entries-of queue.new) }
+    ensures one { length (entries_of queue.new) ≡ 1 }
+    ensures bag { IsPermutation (record { distance = 0; place = source } ∷ []) (entries_of queue.new) }
     ensures records { records.new ≡ slice_set records.old source (first_record round (slice_index_or records.old source blank)) }
 {
     let mark = records[source as usize];

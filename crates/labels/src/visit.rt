@@ -2,7 +2,7 @@
 ghost use Rattle.std.specs.Prelude.{◌≡◌, ℕ, ◌+◌, ◌<◌, ◌≤◌, List, length, slice_index_or};
 ghost use Rattle.heap.specs.Order.{Heaped};
 ghost use Rattle.heap.specs.Entries.{sooner};
-ghost use Rattle.heap.specs.Of.{entries as entries-of, capacity};
+ghost use Rattle.heap.specs.Of.{entries as entries_of, capacity};
 ghost use Rattle.heap.specs.declared.search.SearchEntry.{SearchEntry as Waiting};
 ghost use Rattle.frame.specs.Fans.{arc_at};
 ghost use Rattle.hubs.specs.declared.entry.Entry.{Entry as LabelEntry};
@@ -40,12 +40,12 @@ pub(crate) fn visit(
     requires ranks { (i : ℕ) → i < length (row_in width counts.old entries.old popped.place) → (slice_index_or (row_in width counts.old entries.old popped.place) i no_entry).rank < length records.old }
     requires arcs { (i : ℕ) → i < length arcs.now → ((arc_at arcs.now i).to < length records.old) × ((arc_at arcs.now i).length ≤ 1000000) }
     requires short { popped.distance ≤ 4095000000 }
-    requires heaped { Heaped sooner (entries-of queue.old) }
-    requires room { length (entries-of queue.old) + length arcs.now ≤ capacity queue.old }
-    ensures heaped { Heaped sooner (entries-of queue.new) }
+    requires heaped { Heaped sooner (entries_of queue.old) }
+    requires room { length (entries_of queue.old) + length arcs.now ≤ capacity queue.old }
+    ensures heaped { Heaped sooner (entries_of queue.new) }
     ensures room { capacity queue.new ≡ capacity queue.old }
-    ensures longer { length (entries-of queue.new) ≤ length (entries-of queue.old) + length arcs.now }
-    ensures visited { (ds : List Duct) (order : List ℕ) (row : ℕ → List LabelEntry) (q : List Waiting) → source ≡ place_of order rank → Visiting (length counts.old) ds order width rank row popped arcs.now counts.old entries.old records.old q (entries-of queue.old) → Visited (length counts.old) ds order width rank row popped records.old counts.new entries.new records.new (entries-of queue.new) result }
+    ensures longer { length (entries_of queue.new) ≤ length (entries_of queue.old) + length arcs.now }
+    ensures visited { (ds : List Duct) (order : List ℕ) (row : ℕ → List LabelEntry) (q : List Waiting) → source ≡ place_of order rank → Visiting (length counts.old) ds order width rank row popped arcs.now counts.old entries.old records.old q (entries_of queue.old) → Visited (length counts.old) ds order width rank row popped records.old counts.new entries.new records.new (entries_of queue.new) result }
 {
     let round = rank + 1;
     let place = popped.place;

@@ -1,6 +1,6 @@
 -- Numerals in a text, and the lines of a text. Assumes nothing.
 use Rattle.std.specs.Prelude.{◌≡◌, ℕ, ◌-◌, ◌^◌, ◌<◌, min, List, [], ◌∷◌, ◌++◌, length, Some, None, decimal, Option, ◌≢◌, slice_index, slice_index_or}
-use Rattle.std.specs.List.{AllByRecursion as All, flat_map}
+use Rattle.std.specs.List.{AllByRecursion, flat_map}
 use Rattle.std.specs.Str.Parse.{AllDigits, digits_value}
 use Rattle.std.specs.Int.{IsInRange}
 use Rattle.std.specs.Borrow.{Bor}
@@ -53,7 +53,7 @@ Finds text None = NoNext text
 
 -- numbers of at most seven digits
 abbrev pub Short : List ℕ → Type 0
-Short ns = All (λ n. n < 10000000) ns
+Short ns = AllByRecursion (λ n. n < 10000000) ns
 
 -- the text of numbers: each one's decimal with one blank before it
 abbrev pub tail_text : List ℕ → List ℕ

@@ -2,7 +2,7 @@
 ghost use Rattle.std.specs.Prelude.{◌≡◌, ◌<◌, ◌≤◌, [], ◌∷◌, ◌++◌, length, decimal};
 ghost use Rattle.lines.specs.Text.{held, tail_text};
 ghost use Rattle.lines.specs.Pages.{Puts, said_of};
-ghost use Rattle.lines.specs.Said.{line_text, fitting as said-fitting};
+ghost use Rattle.lines.specs.Said.{line_text, fitting as said_fitting};
 
 use crate::said::Written;
 
@@ -18,8 +18,8 @@ pub fn write_line(out: &mut Vec<u8>, line: Written) -> u64
 
 // Appends a fitting's line with its end: how long it is, up to 64 bits.
 pub fn write_fitting(out: &mut Vec<u8>, number: u32, places: &[u32]) -> u64
-    ensures text { Puts out.old out.new (line_text (said-fitting number (length places.now) places.now) ++ 10 ∷ []) }
-    ensures count { result ≡ held (length (line_text (said-fitting number (length places.now) places.now) ++ 10 ∷ [])) }
+    ensures text { Puts out.old out.new (line_text (said_fitting number (length places.now) places.now) ++ 10 ∷ []) }
+    ensures count { result ≡ held (length (line_text (said_fitting number (length places.now) places.now) ++ 10 ∷ [])) }
 {
     let count = write_places(out, number, places);
     put(out, b'\n');

@@ -1,7 +1,7 @@
 -- The theory of the search: no code. Assumes nothing.
 use Rattle.std.proofs.Common.{◌≡◌, ℕ, suc, ◌+◌, ◌≤◌, Bool, true, false, ◌⊎◌, List, [], ◌∷◌, Some, None, Option, sym, refl, ap, ◌∙◌, subst, inl, inr, arith}
 use native.Mathlib.Decide.{ℕ_discrete, dec_le}
-use Rattle.std.specs.List.{AllByRecursion as All}
+use Rattle.std.specs.List.{AllByRecursion}
 use Rattle.std.specs.List.Sorted.{IsPermutation}
 use Rattle.std.proofs.ByRecursion.{All-weaker, all_shuffled}
 use Rattle.std.proofs.lemmas.List.Sorted.{IsPermutation-sym}
@@ -40,7 +40,7 @@ module _ (ds : List Row) (N : ℕ → Option ℕ) (D : ℕ → Bool) (K : ℕ)
 never : (b : Bool) → b ≡ true → b ≡ false → ⊥
 never b p q = absurd (both_ways b q p)
 
-all_both : {X : Type 0} (P Q : X → Type 0) (xs : List X) → All P xs → All Q xs → All (λ x. P x × Q x) xs
+all_both : {X : Type 0} (P Q : X → Type 0) (xs : List X) → AllByRecursion P xs → AllByRecursion Q xs → AllByRecursion (λ x. P x × Q x) xs
 all_both P Q [] p q = tt
 all_both P Q (x ∷ xs) p q = ((p.0, q.0), all_both P Q xs p.1 q.1)
 
@@ -99,8 +99,8 @@ module _ (ds : List Row) (Due : ℕ → ℕ → ℕ → Type 0) (s floor : ℕ) 
 
 -- the least entry is taken out
 module _ (ds : List Row) (s floor : ℕ) (N : ℕ → Option ℕ) (D : ℕ → Bool) (q q' : List SearchEntry) (e : SearchEntry)
-    (k : Kept ds (Joined ds) s floor N D q) (bag : IsPermutation q (e ∷ q')) (first : All (λ y. e.distance ≤ y.distance) q) where
-  moved : ((floor ≤ e.distance) × AtMost (N e.place) e.distance) × All (λ e. (floor ≤ e.distance) × AtMost (N e.place) e.distance) q'
+    (k : Kept ds (Joined ds) s floor N D q) (bag : IsPermutation q (e ∷ q')) (first : AllByRecursion (λ y. e.distance ≤ y.distance) q) where
+  moved : ((floor ≤ e.distance) × AtMost (N e.place) e.distance) × AllByRecursion (λ e. (floor ≤ e.distance) × AtMost (N e.place) e.distance) q'
   moved = all_shuffled (λ e. (floor ≤ e.distance) × AtMost (N e.place) e.distance) q (e ∷ q') bag k.listed
 
   -- of a place that is settled

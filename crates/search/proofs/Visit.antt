@@ -1,7 +1,7 @@
 -- One entry that is taken from the heap. Assumes nothing.
 use Rattle.std.proofs.Common.{◌≡◌, ℕ, ◌+◌, ◌<◌, ◌≤◌, Bool, true, false, not, List, ◌∷◌, length, Some, sym, refl, ap, ◌∙◌, subst, arith}
 use native.Mathlib.Decide.{ℕ_discrete, dec_le}
-use Rattle.std.specs.List.{AllByRecursion as All}
+use Rattle.std.specs.List.{AllByRecursion}
 use Rattle.std.specs.List.Sorted.{IsPermutation}
 use Rattle.std.proofs.ByRecursion.{All-weaker, all_shuffled}
 use Rattle.std.proofs.lemmas.List.{get_or_past}
@@ -33,8 +33,8 @@ numbered rs v t h = go (dec_le (length rs) v)
 
 module _ (n : ℕ) (ds : List Row) (few : n ≤ 4096) (lawful : Lawful n ds) (rs : List Record) (size : length rs ≡ n)
     (s floor : ℕ) (q q' : List SearchEntry) (e : SearchEntry) (source : s < n)
-    (k : Kept ds (Joined ds) s floor (known rs) (done rs) q) (bag : IsPermutation q (e ∷ q')) (before : All (λ y. sooner e y ≡ true) q) where
-  first : All (λ y. e.distance ≤ y.distance) q
+    (k : Kept ds (Joined ds) s floor (known rs) (done rs) q) (bag : IsPermutation q (e ∷ q')) (before : AllByRecursion (λ y. sooner e y ≡ true) q) where
+  first : AllByRecursion (λ y. e.distance ≤ y.distance) q
   first = All-weaker (λ y. sooner e y ≡ true) (λ y. e.distance ≤ y.distance) (λ y h. sooner_nearer e y h) q before
 
   pub place_in : e.place < length rs
@@ -78,7 +78,7 @@ pub record Visit (n : ℕ) (ds : List Row) (rs : List Record) (s : ℕ) (q' : Li
   pub settles : done rs e.place ≡ false → Kept ds (But ds e.place) s e.distance (known (settled_at rs e.place)) (done (settled_at rs e.place)) q'
   pub lessens : done rs e.place ≡ false → left (degree ds) (done (settled_at rs e.place)) n + degree ds e.place ≡ left (degree ds) (done rs) n
 
-pub visit : (n : ℕ) (ds : List Row) → n ≤ 4096 → Lawful n ds → (rs : List Record) → length rs ≡ n → (s : ℕ) (q q' : List SearchEntry) (e : SearchEntry) → s < n → ((floor : ℕ) × Kept ds (Joined ds) s floor (known rs) (done rs) q) → IsPermutation q (e ∷ q') → All (λ y. sooner e y ≡ true) q → Visit n ds rs s q' e
+pub visit : (n : ℕ) (ds : List Row) → n ≤ 4096 → Lawful n ds → (rs : List Record) → length rs ≡ n → (s : ℕ) (q q' : List SearchEntry) (e : SearchEntry) → s < n → ((floor : ℕ) × Kept ds (Joined ds) s floor (known rs) (done rs) q) → IsPermutation q (e ∷ q') → AllByRecursion (λ y. sooner e y ≡ true) q → Visit n ds rs s q' e
 visit n ds few lawful rs size s q q' e source k bag before = record {
   in_records = place_in n ds few lawful rs size s k.0 q q' e source k.1 bag before;
   in_places = subst (λ (x : ℕ). e.place < x) size (place_in n ds few lawful rs size s k.0 q q' e source k.1 bag before);

@@ -1,6 +1,6 @@
 -- What a search keeps true of its records and its heap. Assumes nothing.
 use Rattle.std.specs.Prelude.{◌≡◌, ℕ, zero, suc, ◌+◌, ◌≤◌, Bool, true, false, cond, ◌⊎◌, List, ◌∷◌, Some, None, Option, ◌≢◌, slice_index_or, slice_set}
-use Rattle.std.specs.List.{AllByRecursion as All}
+use Rattle.std.specs.List.{AllByRecursion}
 use Rattle.std.specs.List.Sorted.{IsPermutation}
 use Rattle.heap.specs.declared.search.SearchEntry.{SearchEntry}
 use Rattle.ways.specs.declared.row.Row.{Row}
@@ -32,7 +32,7 @@ settled_at rs v = noted rs v (known rs v) true
 
 -- the heap has the entry of the distance k and the place v
 abbrev pub Waits : List SearchEntry → ℕ → ℕ → Type 0
-Waits q k v = All (λ e. e.distance ≡ k → e.place ≢ v) q → ⊥
+Waits q k v = AllByRecursion (λ e. e.distance ≡ k → e.place ≢ v) q → ⊥
 
 -- N are the distances so far from s and D the settled places. Due x w len: the duct from x to w is to have been followed, once x is settled
 pub record Kept (ds : List Row) (Due : ℕ → ℕ → ℕ → Type 0) (s floor : ℕ) (N : ℕ → Option ℕ) (D : ℕ → Bool) (q : List SearchEntry) : Type 0 where
@@ -41,7 +41,7 @@ pub record Kept (ds : List Row) (Due : ℕ → ℕ → ℕ → Type 0) (s floor 
   pub low : (v : ℕ) → D v ≡ true → AtMost (N v) floor
   pub shut : (x w len a : ℕ) → D x ≡ true → Due x w len → AtMost (N x) a → AtMost (N w) (a + len)
   pub waits : (v k : ℕ) → D v ≡ false → N v ≡ Some k → Waits q k v
-  pub listed : All (λ e. (floor ≤ e.distance) × AtMost (N e.place) e.distance) q
+  pub listed : AllByRecursion (λ e. (floor ≤ e.distance) × AtMost (N e.place) e.distance) q
 
 -- every duct but those of u
 abbrev pub But : List Row → ℕ → ℕ → ℕ → ℕ → Type 0

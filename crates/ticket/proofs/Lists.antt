@@ -2,7 +2,7 @@
 use Rattle.std.proofs.Common.{◌≡◌, ℕ, zero, suc, ◌+◌, ◌<◌, ◌≤◌, cond, eqb, ltb, ◌⊎◌, List, [], ◌∷◌, ◌++◌, IfSome, Some, None, Option, sym, refl, ap, ◌∙◌, inl, inr, arith}
 use Rattle.std.proofs.lemmas.List.{append-nil}
 use Rattle.std.proofs.lemmas.Bool.{lt-ltb, le-ltb, eq-eqb, ne_eqb, cases_order, cases_lt, and_left, cond-true, cond-false}
-use Rattle.std.specs.List.{AllByRecursion as All}
+use Rattle.std.specs.List.{AllByRecursion}
 use Rattle.std.proofs.ByRecursion.{All-append}
 use Rattle.job.specs.Day.{Standing}
 use Rattle.job.specs.Held.{held}
@@ -97,11 +97,11 @@ pub below_climbs : (on : Standing) → Climbs 0 (fits_below 64 on)
 below_climbs on = span_climbs 0 (fits_below 64 on) (span_below 64 on)
 
 -- what holds of every standing fitting's places holds of the listed ones
-all_entry : (P : List ℕ → Type 0) (k : ℕ) (o : Option (List ℕ)) → IfSome o P → All (λ f. P f.places) (entry k o)
+all_entry : (P : List ℕ → Type 0) (k : ℕ) (o : Option (List ℕ)) → IfSome o P → AllByRecursion (λ f. P f.places) (entry k o)
 all_entry P k None h = tt
 all_entry P k (Some ps) h = (h, tt)
 
-pub all_listed : (P : List ℕ → Type 0) (k : ℕ) (on : Standing) → ((j : ℕ) → IfSome (on j) P) → All (λ f. P f.places) (fits_below k on)
+pub all_listed : (P : List ℕ → Type 0) (k : ℕ) (on : Standing) → ((j : ℕ) → IfSome (on j) P) → AllByRecursion (λ f. P f.places) (fits_below k on)
 unfolding fits_below
 all_listed P zero on h = tt
 all_listed P (suc k) on h = All-append (λ (f : Fit). P f.places) (fits_below k on) (entry k (on k)) (all_listed P k on h) (all_entry P k (on k) (h k))

@@ -5,7 +5,7 @@ use Rattle.std.proofs.ByRecursion.{All-get_or, All-from_get_or, All-append}
 use Rattle.std.proofs.lemmas.List.{append_assoc, append-nil, length-append, get_or_append_left, get_or_at}
 use Rattle.std.proofs.lemmas.Str.Parse.{digit_at}
 use Rattle.std.proofs.lemmas.Bool.{le-ltb, lt-ltb, lt-leb, eq-eqb, ne_eqb, eqb-true, not_from_true, or_from, cond-true, cond-false}
-use Rattle.std.specs.List.{flat_map, AllByRecursion as All}
+use Rattle.std.specs.List.{flat_map, AllByRecursion}
 use Rattle.ways.specs.declared.row.Row.{Row}
 use Rattle.ways.specs.Places.{AllBelow}
 use Rattle.ways.specs.Way.{LawfulDuct, Lawful}
@@ -30,7 +30,7 @@ use Rattle.ticket.proofs.Moves.{not_refused, standing_push}
 
 -- no byte 10 in the text of a line
 abbrev NoEnd : List ℕ → Type 0
-NoEnd xs = All (λ c. c ≡ 10 → ⊥) xs
+NoEnd xs = AllByRecursion (λ c. c ≡ 10 → ⊥) xs
 
 no_end_decimal : (n : ℕ) → n < 10000000 → NoEnd (decimal n)
 no_end_decimal n l = All-from_get_or (λ (c : ℕ). c ≡ 10 → ⊥) (decimal n) 0 (λ k b e. omega (arith, digit_at (decimal n) k (decimal_is_IsNumeral n (omega arith)).0.1 b))
@@ -105,7 +105,7 @@ take_fit room at s f left least e z r m l k u =
 still_free : (fs : List Fit) (f : Fit) (k : ℕ) → standing fs f.number ≡ None → standing fs k ≡ None → f.number < k → standing (fs ++ f ∷ []) k ≡ None
 still_free fs f k a b l = standing_push fs f.number f.places a k ∙ (cond-false (eqb k f.number) (Some f.places) (standing fs k) (ne_eqb k f.number (λ e. omega arith)) ∙ b)
 
-pub fits_return : (room at : ℕ) (s end : State) (gs : List Fit) (bytes : List ℕ) (left least : ℕ) (answer : Option TicketFault) → bytes ≡ flat_map fit_text gs → s.due ≡ FittingLines left least → left ≡ length gs → s.n ≤ 4096 → Climbs least gs → All (λ f. Fitted s.n f.places) gs → ((k : ℕ) → least ≤ k → standing s.fits k ≡ None) → Ends room at s (cut bytes).lines (cut bytes).loose end answer → Came end answer s.n s.rows (s.fits ++ gs)
+pub fits_return : (room at : ℕ) (s end : State) (gs : List Fit) (bytes : List ℕ) (left least : ℕ) (answer : Option TicketFault) → bytes ≡ flat_map fit_text gs → s.due ≡ FittingLines left least → left ≡ length gs → s.n ≤ 4096 → Climbs least gs → AllByRecursion (λ f. Fitted s.n f.places) gs → ((k : ℕ) → least ≤ k → standing s.fits k ≡ None) → Ends room at s (cut bytes).lines (cut bytes).loose end answer → Came end answer s.n s.rows (s.fits ++ gs)
 fits_return room at s end [] bytes left least answer b e m l c w u r =
     let k : Ends room at s [] [] end answer = subst (λ (x : List ℕ). Ends room at s (cut x).lines (cut x).loose end answer) b r in
     let q : closing at s.due [] ≡ None = ap (λ (x : Due). closing at x []) e ∙ cond-true (eqb left 0) None (Some (section at)) (eq-eqb left 0 m) in
@@ -122,7 +122,7 @@ lawful_at : (n : ℕ) (pre : List Row) (r : Row) (post : List Row) → Lawful n 
 lawful_at n [] r post l = l.0
 lawful_at n (x ∷ pre) r post l = lawful_at n pre r post l.1
 
-ordered_at : (pre : List Row) (r : Row) (post : List Row) → All (λ d. d.first < d.second) (pre ++ r ∷ post) → r.first < r.second
+ordered_at : (pre : List Row) (r : Row) (post : List Row) → AllByRecursion (λ d. d.first < d.second) (pre ++ r ∷ post) → r.first < r.second
 ordered_at [] r post l = l.0
 ordered_at (x ∷ pre) r post l = ordered_at pre r post l.1
 
@@ -175,7 +175,7 @@ climbs_few l [] h c = omega arith
 climbs_few l (f ∷ fs) h c = omega (arith, climbs_few (f.number + 1) fs (omega (arith, c.1)) c.2, c.0)
 
 -- behind the ducts
-count_return : (room at : ℕ) (s end : State) (gs : List Fit) (bytes : List ℕ) (left : ℕ) (answer : Option TicketFault) → bytes ≡ ended (fittings (length gs)) ++ flat_map fit_text gs → s.due ≡ DuctLines left → left ≡ 0 → s.n ≤ 4096 → Climbs 0 gs → All (λ f. Fitted s.n f.places) gs → s.fits ≡ [] → Ends room at s (cut bytes).lines (cut bytes).loose end answer → Came end answer s.n s.rows gs
+count_return : (room at : ℕ) (s end : State) (gs : List Fit) (bytes : List ℕ) (left : ℕ) (answer : Option TicketFault) → bytes ≡ ended (fittings (length gs)) ++ flat_map fit_text gs → s.due ≡ DuctLines left → left ≡ 0 → s.n ≤ 4096 → Climbs 0 gs → AllByRecursion (λ f. Fitted s.n f.places) gs → s.fits ≡ [] → Ends room at s (cut bytes).lines (cut bytes).loose end answer → Came end answer s.n s.rows gs
 count_return room at s end gs bytes left answer b e z l c w u r =
     let few = climbs_few 0 gs (omega arith) c in
     let t : State = record { n = s.n; rows = s.rows; fits = s.fits; due = FittingLines (length gs) 0 } in
@@ -187,7 +187,7 @@ count_return room at s end gs bytes left answer b e z l c w u r =
     let i = fits_return room (at + 1) t end gs (flat_map fit_text gs) (length gs) 0 answer refl refl refl l c w (λ k y. ap (λ (fs : List Fit). standing fs k) u) h in
     record { accepted = i.accepted; n_is = i.n_is; rows_are = i.rows_are; fits_are = i.fits_are ∙ ap (λ (fs : List Fit). fs ++ gs) u }
 
-rows_return : (room at : ℕ) (s end : State) (rs : List Row) (gs : List Fit) (bytes : List ℕ) (left : ℕ) (answer : Option TicketFault) → bytes ≡ flat_map duct_text rs ++ (ended (fittings (length gs)) ++ flat_map fit_text gs) → s.due ≡ DuctLines left → left ≡ length rs → Sound s.n (s.rows ++ rs) → length (s.rows ++ rs) ≤ room → Climbs 0 gs → All (λ f. Fitted s.n f.places) gs → s.fits ≡ [] → Ends room at s (cut bytes).lines (cut bytes).loose end answer → Came end answer s.n (s.rows ++ rs) gs
+rows_return : (room at : ℕ) (s end : State) (rs : List Row) (gs : List Fit) (bytes : List ℕ) (left : ℕ) (answer : Option TicketFault) → bytes ≡ flat_map duct_text rs ++ (ended (fittings (length gs)) ++ flat_map fit_text gs) → s.due ≡ DuctLines left → left ≡ length rs → Sound s.n (s.rows ++ rs) → length (s.rows ++ rs) ≤ room → Climbs 0 gs → AllByRecursion (λ f. Fitted s.n f.places) gs → s.fits ≡ [] → Ends room at s (cut bytes).lines (cut bytes).loose end answer → Came end answer s.n (s.rows ++ rs) gs
 rows_return room at s end [] gs bytes left answer b e m k l c w u r =
     let i = count_return room at s end gs bytes left answer b e m k.few c w u r in
     record { accepted = i.accepted; n_is = i.n_is; rows_are = i.rows_are ∙ sym (append-nil s.rows); fits_are = i.fits_are }

@@ -7,7 +7,7 @@ use Rattle.job.specs.Day.{Standing}
 use Rattle.job.specs.Held.{held}
 use Rattle.ticket.specs.declared.fault.TicketFault.{TicketFault}
 use Rattle.ticket.specs.Steps.{standing}
-use Rattle.std.specs.List.{AllByRecursion as All}
+use Rattle.std.specs.List.{AllByRecursion}
 use Rattle.frame.specs.declared.frame.ClosedFrame.{ClosedFrame}
 use Rattle.frame.specs.Rows.{Sound}
 use Rattle.job.specs.Places.{Fitted}
@@ -38,7 +38,7 @@ reads_back bytes room frame job answer a n rows fits k b =
 -- what a frame and a job of the same places write can be read
 pub readable : (frame : ClosedFrame) (job : Job) → (places_of frame ≡ 0 → ⊥) → places_of frame ≡ job.heading.places → Sound (places_of frame) (rows_of frame) → Readable frame job (Ok tt)
 readable frame job z e s =
-    let fit : All (λ f. Fitted (places_of frame) f.places) (fits_of job) = all_listed (Fitted (places_of frame)) 64 (held job) (subst (λ (n : ℕ). (j : ℕ) → IfSome (held job j) (Fitted n)) (sym e) (held_fitted job)) in (
+    let fit : AllByRecursion (λ f. Fitted (places_of frame) f.places) (fits_of job) = all_listed (Fitted (places_of frame)) 64 (held job) (subst (λ (n : ℕ). (j : ℕ) → IfSome (held job j) (Fitted n)) (sym e) (held_fitted job)) in (
       λ room l. record { some = omega arith; sound = s; inside = l; climbs = below_climbs (held job); fitted = fit },
       standing_again (held job) (held_none job),
     )

@@ -2,7 +2,7 @@
 use Rattle.std.proofs.Common.{ℕ, ◌+◌, ◌*◌, ◌^◌, ◌<◌, ◌≤◌, List, [], ◌∷◌, ◌++◌, length, decimal, arith}
 use Rattle.std.proofs.lemmas.Fmt.{length-decimal-le}
 use Rattle.std.proofs.lemmas.List.{length-append, length_push}
-use Rattle.std.specs.List.{flat_map, AllByRecursion as All}
+use Rattle.std.specs.List.{flat_map, AllByRecursion}
 use Rattle.ways.specs.declared.row.Row.{Row}
 use Rattle.ways.specs.Way.{Lawful}
 use Rattle.job.specs.Places.{Fitted}
@@ -26,7 +26,7 @@ length_rows n [] l h = omega arith
 length_rows n (r ∷ rs) l h =
     omega (arith, length_rows n rs l h.1, length-append (duct_text r) (flat_map duct_text rs), length_ended (duct r.first r.second r.length) (short_row n r l h.0))
 
-length_fits : (n least : ℕ) (fits : List Fit) → n ≤ 4096 → Climbs least fits → All (λ f. Fitted n f.places) fits → length (flat_map fit_text fits) ≤ 146 * length fits
+length_fits : (n least : ℕ) (fits : List Fit) → n ≤ 4096 → Climbs least fits → AllByRecursion (λ f. Fitted n f.places) fits → length (flat_map fit_text fits) ≤ 146 * length fits
 length_fits n least [] l c h = omega arith
 length_fits n least (f ∷ fs) l c h =
     omega (arith, length_fits n (f.number + 1) fs l c.2 h.1, length-append (fit_text f) (flat_map fit_text fs), length_ended (fitting f.number (length f.places) f.places) (short_fit n f l c.1 h.0), h.0.few)

@@ -1,6 +1,6 @@
 -- The text of a ticket. Assumes nothing.
 use Rattle.std.specs.Prelude.{◌≡◌, ℕ, zero, suc, ◌+◌, ◌<◌, ◌≤◌, cond, not, ◌||◌, List, [], ◌∷◌, ◌++◌, length, Some, None, Ok, Err, Option, Result, Vec, ◌==◌, nat_lt}
-use Rattle.std.specs.List.{flat_map, AllByRecursion as All}
+use Rattle.std.specs.List.{flat_map, AllByRecursion}
 use Rattle.std.specs.declared.alloc.Global.{Global}
 use Rattle.ways.specs.declared.row.Row.{Row}
 use Rattle.frame.specs.declared.frame.ClosedFrame.{ClosedFrame}
@@ -75,7 +75,7 @@ pub record LawfulTicket (room n : ℕ) (rows : List Row) (fits : List Fit) : Typ
   pub sound : Sound n rows
   pub inside : length rows ≤ room
   pub climbs : Climbs 0 fits
-  pub fitted : All (λ f. Fitted n f.places) fits
+  pub fitted : AllByRecursion (λ f. Fitted n f.places) fits
 
 -- an accepted byte string is the text of what was read
 abbrev pub IsText : List ℕ → OpenFrame → Job → Option TicketFault → Type 0

@@ -2,7 +2,7 @@
 ghost use Rattle.std.specs.Prelude.{◌≡◌, ℕ, ◌<◌, ◌≤◌, List, IfNone};
 ghost use Rattle.lines.specs.Said.{capped, Lists};
 ghost use Rattle.lines.specs.Text.{held};
-ghost use Rattle.ticket.specs.Faults.{section as section-of, limit as limit-of};
+ghost use Rattle.ticket.specs.Faults.{section as section_of, limit as limit_of};
 ghost use Rattle.ticket.specs.Steps.{Finds, duct_checks, fitting_checks};
 
 use crate::fault::TicketFault;
@@ -16,7 +16,7 @@ pub const TOO_LONG: u32 = 10_000_000;
 
 // 12 at a line.
 pub fn section(at: u64) -> TicketFault
-    ensures { result ≡ section-of at }
+    ensures { result ≡ section_of at }
 {
     TicketFault::Reader {
         line: at,
@@ -26,7 +26,7 @@ pub fn section(at: u64) -> TicketFault
 
 // 13 at a line, of one of its numbers.
 pub fn limit(at: u64, which: u64) -> TicketFault
-    ensures { result ≡ limit-of at which }
+    ensures { result ≡ limit_of at which }
 {
     TicketFault::Reader {
         line: at,

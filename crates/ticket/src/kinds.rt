@@ -2,7 +2,7 @@
 ghost use Rattle.std.specs.Prelude.{◌≡◌, ℕ, ◌<◌, List};
 ghost use Rattle.frame.specs.declared.frame.OpenFrame.{OpenFrame as FrameNow};
 ghost use Rattle.job.specs.declared.job.Job.{Job as JobNow};
-ghost use Rattle.lines.specs.Said.{capped, Lists, places as said-places, ducts as said-ducts, duct as said-duct, fittings as said-fittings, fitting as said-fitting};
+ghost use Rattle.lines.specs.Said.{capped, Lists, places as said_places, ducts as said_ducts, duct as said_duct, fittings as said_fittings, fitting as said_fitting};
 ghost use Rattle.lines.specs.Text.{held};
 ghost use Rattle.ticket.specs.Runs.{Holds, Took, Tame};
 ghost use Rattle.ticket.specs.Steps.{State};
@@ -23,7 +23,7 @@ pub fn places_line(
     frame: &mut OpenFrame,
     job: &mut Job,
 ) -> Result<Due, TicketFault>
-    ensures { (room : ℕ) (s : State) (v : ℕ) → Holds room frame.old job.old s → s.due ≡ due → n ≡ capped v → Took room at s (said-places v) frame.new job.new result }
+    ensures { (room : ℕ) (s : State) (v : ℕ) → Holds room frame.old job.old s → s.due ≡ due → n ≡ capped v → Took room at s (said_places v) frame.new job.new result }
 {
     let Due::PlacesLine = due else {
         return Err(section(at));
@@ -42,7 +42,7 @@ pub fn places_line(
 
 // The number of ducts.
 pub fn ducts_line(at: u64, m: u32, due: Due) -> Result<Due, TicketFault>
-    ensures { (room : ℕ) (frame : FrameNow) (job : JobNow) (s : State) (v : ℕ) → Holds room frame job s → s.due ≡ due → m ≡ capped v → Took room at s (said-ducts v) frame job result }
+    ensures { (room : ℕ) (frame : FrameNow) (job : JobNow) (s : State) (v : ℕ) → Holds room frame job s → s.due ≡ due → m ≡ capped v → Took room at s (said_ducts v) frame job result }
 {
     let Due::DuctsLine = due else {
         return Err(section(at));
@@ -55,7 +55,7 @@ pub fn ducts_line(at: u64, m: u32, due: Due) -> Result<Due, TicketFault>
 
 // A duct, for the frame.
 pub fn duct_line(at: u64, row: Row, due: Due, frame: &mut OpenFrame) -> Result<Due, TicketFault>
-    ensures { (room : ℕ) (job : JobNow) (s : State) (a b l : ℕ) → Holds room frame.old job s → s.due ≡ due → row.first ≡ capped a → row.second ≡ capped b → row.length ≡ capped l → Took room at s (said-duct a b l) frame.new job result }
+    ensures { (room : ℕ) (job : JobNow) (s : State) (a b l : ℕ) → Holds room frame.old job s → s.due ≡ due → row.first ≡ capped a → row.second ≡ capped b → row.length ≡ capped l → Took room at s (said_duct a b l) frame.new job result }
 {
     let Due::DuctLines { left } = due else {
         return Err(section(at));
@@ -71,7 +71,7 @@ pub fn duct_line(at: u64, row: Row, due: Due, frame: &mut OpenFrame) -> Result<D
 
 // The number of fittings.
 pub fn fittings_line(at: u64, k: u32, due: Due) -> Result<Due, TicketFault>
-    ensures { (room : ℕ) (frame : FrameNow) (job : JobNow) (s : State) (v : ℕ) → Holds room frame job s → s.due ≡ due → k ≡ capped v → Took room at s (said-fittings v) frame job result }
+    ensures { (room : ℕ) (frame : FrameNow) (job : JobNow) (s : State) (v : ℕ) → Holds room frame job s → s.due ≡ due → k ≡ capped v → Took room at s (said_fittings v) frame job result }
 {
     let Due::DuctLines { left } = due else {
         return Err(section(at));
@@ -94,7 +94,7 @@ pub fn fitting_line(
     due: Due,
     job: &mut Job,
 ) -> Result<Due, TicketFault>
-    ensures { (room : ℕ) (frame : FrameNow) (s : State) (f c : ℕ) (ps : List ℕ) → Holds room frame job.old s → s.due ≡ due → Tame due → number ≡ capped f → count ≡ held c → Lists places.now ps → Took room at s (said-fitting f c ps) frame job.new result }
+    ensures { (room : ℕ) (frame : FrameNow) (s : State) (f c : ℕ) (ps : List ℕ) → Holds room frame job.old s → s.due ≡ due → Tame due → number ≡ capped f → count ≡ held c → Lists places.now ps → Took room at s (said_fitting f c ps) frame job.new result }
 {
     let Due::FittingLines { left, least } = due else {
         return Err(section(at));

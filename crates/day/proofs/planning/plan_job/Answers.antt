@@ -1,5 +1,5 @@
 use Rattle.std.proofs.Common.{◌≡◌, ℕ, ◌-◌, List, map, length, take, None, Err, sym, refl, ap, ◌∙◌, subst, arith}
-use Rattle.std.specs.List.{AllByRecursion as All}
+use Rattle.std.specs.List.{AllByRecursion}
 use Rattle.std.proofs.lemmas.List.{length-map}
 use Rattle.oracle.specs.Meaning.{Meaning}
 use Rattle.job.specs.Day.{groups_by}
@@ -29,7 +29,7 @@ fill-requires g c =
     let is : map places_of fs ≡ groups c.args.job.now = ap (map places_of) c.as_slice-fittings.ensures ∙ c.listed-listed.ensures.value in
     record {
       room = omega (arith, (groups_fitted c.args.job.now).1, ap length is, length-map fs places_of);
-      few = fitted_few c.args.job.now.heading.places fs (subst (All (Fitted c.args.job.now.heading.places)) (sym is) c.listed-listed.ensures.fitted);
+      few = fitted_few c.args.job.now.heading.places fs (subst (AllByRecursion (Fitted c.args.job.now.heading.places)) (sym is) c.listed-listed.ensures.fitted);
     }
 
 pub overflow_cast-count : goal.overflow_cast-count
