@@ -8,5 +8,6 @@ pub mod fault;
 pub mod frame;
 mod laying;
 pub mod open;
+pub mod order;
 pub mod refusals;
 mod scan;

@@ -1,8 +1,11 @@
 // What a frame takes and refuses, and the neighbours of a place.
 use faults::layer::Layer;
 use faults::refusal::Refusal;
+use frame::arc::Arc;
 use frame::fault::FrameFault;
 use frame::frame::OpenFrame;
+use frame::order::compare;
+use std::cmp::Ordering;
 use std::test::Fail;
 use ways::row::Row;
 
@@ -81,6 +84,36 @@ fn neighbours(rt: HostRuntime) -> Result<(), Fail> {
     assert!(rt; near.len() == 3);
     assert_eq!(rt; (near[0].to, near[1].to, near[2].to), (0, 2, 4));
     Ok(())
+}
+
+#[test]
+fn arcs_compare(rt: HostRuntime) {
+    let arc = |from, to, duct, length| Arc {
+        from,
+        to,
+        duct,
+        length,
+    };
+    assert_eq!(rt;
+        compare(&arc(0, 3, 3, 1000), &arc(1, 0, 0, 300)),
+        Ordering::Less
+    );
+    assert_eq!(rt;
+        compare(&arc(0, 3, 3, 1000), &arc(0, 1, 0, 300)),
+        Ordering::Greater
+    );
+    assert_eq!(rt;
+        compare(&arc(0, 1, 2, 300), &arc(0, 1, 0, 300)),
+        Ordering::Greater
+    );
+    assert_eq!(rt;
+        compare(&arc(0, 1, 0, 300), &arc(0, 1, 0, 301)),
+        Ordering::Less
+    );
+    assert_eq!(rt;
+        compare(&arc(0, 1, 0, 300), &arc(0, 1, 0, 300)),
+        Ordering::Equal
+    );
 }
 
 // The number and the spot of a fault.
