@@ -3,7 +3,7 @@ use Rattle.std.proofs.Common.{◌≡◌, ℕ, ◌+◌, ◌<◌, ◌≤◌, Bool,
 use native.Mathlib.Decide.{ℕ_discrete}
 use borrow.Author.Tests.{eqb-false}
 use Rattle.ways.specs.declared.row.Row.{Row}
-use Rattle.ways.specs.declared.near.Near.{Near}
+use Rattle.ways.specs.Nearest.{Near}
 use Rattle.ways.specs.Options.{pick}
 use Rattle.ways.specs.Way.{Lawful}
 use Rattle.ways.specs.Distance.{distance}

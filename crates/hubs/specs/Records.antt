@@ -1,6 +1,6 @@
 -- The nearest place in focus, by one record for each hub. Assumes nothing.
 use Rattle.std.specs.Prelude.{◌≡◌, ℕ, ◌+◌, ◌<◌, Bool, true, false, List, [], ◌∷◌, Some, None, Option, ◌==◌, nat_le, nat_lt}
-use Rattle.ways.specs.declared.near.Near.{Near}
+use Rattle.ways.specs.Nearest.{Near}
 use Rattle.ways.specs.Options.{pick}
 use Rattle.ways.specs.Nearest.{Later}
 use Rattle.hubs.specs.Labels.{Entry, In}

@@ -1,6 +1,6 @@
 -- What an oracle answers. Assumes nothing.
 use Rattle.std.specs.Prelude.{◌≡◌, ℕ, ◌<◌, ◌≤◌, Bool, Some, None, Ok, Err, Option, Result, ◌==◌, nat_lt}
-use Rattle.ways.specs.declared.near.Near.{Near}
+use Rattle.ways.specs.Nearest.{Near}
 use Rattle.ways.specs.Options.{pick}
 use Rattle.ways.specs.Way.{Hop}
 use Rattle.ways.specs.Nearest.{Nearest, with_place}

@@ -46,7 +46,7 @@ impl GroupOracle for EmptyOracle {
         Err(OracleFault::NoPlace { place: v })
     }
 
-    fn nearest(&mut self, v: u32) -> Result<Option<Near>, OracleFault> {
+    fn nearest(&mut self, v: u32) -> Result<Option<Near<u32>>, OracleFault> {
         Err(OracleFault::NoPlace { place: v })
     }
 }

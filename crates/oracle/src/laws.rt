@@ -2,15 +2,11 @@
 ghost use Rattle.oracle.specs.Laws.{FarIs, RuleLeads};
 
 // What an oracle tells is the distance over its ducts.
-pub fn far_is() -> u8
+pub fn far_is()
     ensures { FarIs }
-{
-    0
-}
+{}
 
 // Where there is a way, the way rule walks one that is as long as the distance.
-pub fn rule_leads() -> u8
+pub fn rule_leads()
     ensures { RuleLeads }
-{
-    0
-}
+{}

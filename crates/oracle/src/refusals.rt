@@ -15,11 +15,10 @@ impl Refusal for OracleFault {
 
     fn number(&self) -> u32 {
         match self {
-            OracleFault::Limit { which: _ } => 13,
-            OracleFault::EqualEnds { end: _ } => 14,
-            OracleFault::NoPlace { place: _ } => 15,
-            OracleFault::Records { needed: _ } => 31,
-            OracleFault::Entries { needed: _ } => 31,
+            OracleFault::Limit { .. } => 13,
+            OracleFault::EqualEnds { .. } => 14,
+            OracleFault::NoPlace { .. } => 15,
+            OracleFault::Records { .. } | OracleFault::Entries { .. } => 31,
         }
     }
 
@@ -28,12 +27,12 @@ impl Refusal for OracleFault {
     }
 
     fn spot(&self) -> u64 {
-        match self {
-            OracleFault::Limit { which } => u64::from(*which),
-            OracleFault::EqualEnds { end } => u64::from(*end),
-            OracleFault::NoPlace { place } => u64::from(*place),
-            OracleFault::Records { needed } => u64::from(*needed),
-            OracleFault::Entries { needed } => u64::from(*needed),
+        match *self {
+            OracleFault::Limit { which: spot }
+            | OracleFault::EqualEnds { end: spot }
+            | OracleFault::NoPlace { place: spot }
+            | OracleFault::Records { needed: spot }
+            | OracleFault::Entries { needed: spot } => u64::from(spot),
         }
     }
 }

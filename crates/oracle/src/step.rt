@@ -5,6 +5,6 @@ pub enum Step {
     Here,
     // No way leads to the goal.
     NoWay,
-    // By the duct of this length to this place.
+    // By the duct of this length to this place. Two numbers and no `Leg`: who steps takes them apart at once.
     Next { place: u32, length: u32 },
 }

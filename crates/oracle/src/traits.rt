@@ -51,7 +51,7 @@ pub trait GroupOracle: DistanceOracle {
         ensures same { Self.DistanceOracle.meaning self.new ≡ Self.DistanceOracle.meaning self.old };
 
     // The place in focus at the least distance, the smallest number among equals, or none where no way leads to one. Refuses what is no place.
-    fn nearest(&mut self, v: u32) -> Result<Option<Near>, OracleFault>
+    fn nearest(&mut self, v: u32) -> Result<Option<Near<u32>>, OracleFault>
         ensures value { Found (Self.DistanceOracle.meaning self.old) (focused self.old) v result }
         ensures kept { Self.DistanceOracle.kept self.old self.new };
 

@@ -1,11 +1,10 @@
 // A walk by an oracle's steps: it needs no more of the oracle than the promise.
-ghost use Rattle.std.specs.Prelude.{◌≡◌, ◌<◌};
+ghost use Rattle.std.specs.Prelude.{◌≡◌};
 ghost use Rattle.oracle.specs.declared.walk.WalkFault.TheVariants.{Oracle as FromOracle, NoMemory as WantOfMemory};
-ghost use Rattle.oracle.specs.Answers.{step_of};
-ghost use Rattle.oracle.specs.Walked.{leg_of, Walked};
+ghost use Rattle.oracle.specs.Walked.{Walked};
 
+use crate::ask::leg_from;
 use crate::fault::OracleFault;
-use crate::step::Step;
 use crate::traits::DistanceOracle;
 use std::alloc::{AllocFailed, Global};
 
@@ -41,20 +40,6 @@ impl<T: Drop> From<AllocFailed<T>> for WalkFault {
     }
 }
 
-// The leg that the way rule names, or none where the walk ends.
-fn onward<O: DistanceOracle>(o: &mut O, at: u32, to: u32) -> Option<Leg>
-    requires at_within { at < (O.DistanceOracle.meaning o.old).count }
-    requires to_within { to < (O.DistanceOracle.meaning o.old).count }
-    ensures value { result ≡ leg_of (step_of (O.DistanceOracle.meaning o.old) at to) }
-    ensures kept { O.DistanceOracle.kept o.old o.new }
-{
-    match o.step(at, to) {
-        Ok(Step::Next { place, length }) => Some(Leg { place, length }),
-        Ok(Step::Here | Step::NoWay) => None,
-        Err(_) => unreachable(),
-    }
-}
-
 // The legs of a shortest way from u to v by the way rule, or none where there is no way. Refuses what is no place, and want of memory.
 pub fn walk<O: DistanceOracle>(
     o: &mut O,
@@ -70,7 +55,7 @@ pub fn walk<O: DistanceOracle>(
     };
     let mut legs = Vec::new(heap);
     let mut at = u;
-    while let Some(leg) = onward(o, at, v) {
+    while let Some(leg) = leg_from(o, at, v) {
         legs.push(leg)?;
         at = leg.place;
     }

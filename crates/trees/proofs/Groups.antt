@@ -1,6 +1,6 @@
 -- The distance of a group, and what the distances to groups are bounded by. Assumes nothing.
 use Rattle.std.proofs.Common.{◌≡◌, ℕ, ◌+◌, ◌*◌, ◌≤◌, Bool, true, false, ◌⊎◌, List, [], ◌∷◌, length, Some, None, Option, sym, refl, ap, ◌∙◌, subst, inl, inr, arith, leb-true}
-use Rattle.ways.specs.declared.near.Near.{Near}
+use Rattle.ways.specs.Nearest.{Near}
 use Rattle.ways.specs.Distance.{distance}
 use Rattle.ways.specs.Nearest.{Later, Nearest}
 use Rattle.ways.specs.Options.{pick, AtMost, within, lesser, plus}

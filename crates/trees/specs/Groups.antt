@@ -1,6 +1,6 @@
 -- Distances to groups, which are lists of places. Assumes nothing.
 use Rattle.std.specs.Prelude.{ℕ, Bool, List, [], ◌∷◌, Some, None, Option}
-use Rattle.ways.specs.declared.near.Near.{Near}
+use Rattle.ways.specs.Nearest.{Near}
 use Rattle.ways.specs.Nearest.{no_place, with_place}
 use Rattle.ways.specs.Options.{lesser, plus}
 use Rattle.ways.specs.Places.{AllBelow}

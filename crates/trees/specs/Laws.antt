@@ -1,6 +1,6 @@
 -- What is proved of connected sets, trees and growth. Assumes nothing.
 use Rattle.std.specs.Prelude.{◌≡◌, ℕ, ◌+◌, ◌*◌, ◌<◌, ◌≤◌, true, List, [], ◌∷◌, ◌++◌, length, Option}
-use Rattle.ways.specs.declared.near.Near.{Near}
+use Rattle.ways.specs.Nearest.{Near}
 use Rattle.ways.specs.declared.row.Row.{Row}
 use Rattle.ways.specs.Distance.{IsDistance, distance}
 use Rattle.ways.specs.Nearest.{Nearest}

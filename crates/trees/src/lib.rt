@@ -4,64 +4,46 @@
 ghost use Rattle.trees.specs.Laws.{WayInWeight, DistanceInWeight, TreeFew, TreeLight, TreeStarts, TreeGrows, NearestGap, CostBounded, LeastCostBounded};
 
 // A way that comes to no place twice is no longer than all the ducts together.
-pub fn way_in_weight() -> u8
+pub fn way_in_weight()
     ensures { WayInWeight }
-{
-    0
-}
+{}
 
 // Two places of a connected set are no further apart than its weight.
-pub fn distance_in_weight() -> u8
+pub fn distance_in_weight()
     ensures { DistanceInWeight }
-{
-    0
-}
+{}
 
 // A tree has fewer ducts than there are places.
-pub fn tree_few() -> u8
+pub fn tree_few()
     ensures { TreeFew }
-{
-    0
-}
+{}
 
 // A tree weighs at most a million for each of its ducts.
-pub fn tree_light() -> u8
+pub fn tree_light()
     ensures { TreeLight }
-{
-    0
-}
+{}
 
 // One place alone is a tree.
-pub fn tree_starts() -> u8
+pub fn tree_starts()
     ensures { TreeStarts }
-{
-    0
-}
+{}
 
 // A tree grown by a walk is a tree, and heavier by the walk's length.
-pub fn tree_grows() -> u8
+pub fn tree_grows()
     ensures { TreeGrows }
-{
-    0
-}
+{}
 
 // What is nearest of a group's places is at the group's distance.
-pub fn nearest_gap() -> u8
+pub fn nearest_gap()
     ensures { NearestGap }
-{
-    0
-}
+{}
 
 // From a place of a connected set, the groups that it touches are together no further than that many times its weight.
-pub fn cost_bounded() -> u8
+pub fn cost_bounded()
     ensures { CostBounded }
-{
-    0
-}
+{}
 
 // The least sum of distances from a place of the first of g groups is at most g − 1 times the weight of any connected set that touches all groups.
-pub fn least_cost_bounded() -> u8
+pub fn least_cost_bounded()
     ensures { LeastCostBounded }
-{
-    0
-}
+{}

@@ -1,7 +1,11 @@
 -- The nearest of some places. Assumes nothing.
 use Rattle.std.specs.Prelude.{◌≡◌, ℕ, ◌<◌, ◌≤◌, Bool, true, false, Some, None, Option, ◌==◌}
-use Rattle.ways.specs.declared.near.Near.{Near}
+use Rattle.ways.specs.declared.near.Near.{Near as NearBy}
 use Rattle.ways.specs.Options.{pick}
+
+-- a place and its distance from another
+abbrev pub Near : Type 0
+Near = NearBy ℕ
 
 -- no place at all
 abbrev pub no_place : ℕ → Bool

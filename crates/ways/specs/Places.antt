@@ -1,5 +1,5 @@
 -- Lists of places. Assumes nothing.
-use Rattle.std.specs.Prelude.{◌≡◌, ℕ, ◌<◌, ◌⊎◌, List, [], ◌∷◌, length, ◌≢◌}
+use Rattle.std.specs.Prelude.{◌≡◌, ℕ, ◌<◌, ◌⊎◌, List, [], ◌∷◌, length, Some, None, Option, ◌≢◌, cond, nat_lt}
 
 -- x is in the list
 abbrev pub On : ℕ → List ℕ → Type 0
@@ -20,6 +20,11 @@ Apart (x ∷ xs) = Off x xs × Apart xs
 abbrev pub AllBelow : ℕ → List ℕ → Type 0
 AllBelow n [] = Unit {0}
 AllBelow n (x ∷ xs) = (x < n) × AllBelow n xs
+
+-- the first place of the list that is not below n
+abbrev pub outside : ℕ → List ℕ → Option ℕ
+outside n [] = None
+outside n (p ∷ ps) = cond (nat_lt p n) (outside n ps) (Some p)
 
 -- the list has each of the places below n once
 pub record Order (n : ℕ) (xs : List ℕ) : Type 0 where

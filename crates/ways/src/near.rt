@@ -1,6 +1,20 @@
-// A place and its distance from another.
-#[derive(Clone, Copy, PartialEq, Eq, Debug)]
-pub struct Near {
+// A place and its distance from another. The nearer is the lesser, and of two as near that of the smaller number.
+ghost use Rattle.std.specs.Prelude.{◌≡◌};
+
+#[derive(Clone, Copy, PartialEq, Eq, PartialOrd, Ord, Debug)]
+pub struct Near<D> {
+    pub distance: D,
     pub place: u32,
-    pub distance: u32,
+}
+
+// The same place at the same distance, told in 64 bits.
+impl From<Near<u32>> for Near<u64> {
+    ghost from_gives = { λ near wide. wide ≡ near };
+
+    fn from(near: Near<u32>) -> Near<u64> {
+        Near {
+            distance: u64::from(near.distance),
+            place: near.place,
+        }
+    }
 }
