@@ -42,13 +42,13 @@ const DUCTS: [Row; 5] = [
 // Five places and five ducts.
 pub(crate) fn worked_frame(heap: Global) -> anyhow::Result<ClosedFrame> {
     let mut frame = OpenFrame::new(heap, 5)?;
-    if frame.begin(5).is_err() {
-        return Err(anyhow!("the frame refuses its places"));
-    }
+    frame
+        .begin(5)
+        .map_err(|_| anyhow!("the frame refuses its places"))?;
     for row in DUCTS {
-        if frame.add(row).is_err() {
-            return Err(anyhow!("the frame refuses a duct"));
-        }
+        frame
+            .add(row)
+            .map_err(|_| anyhow!("the frame refuses a duct"))?;
     }
     Ok(frame.close())
 }
@@ -58,20 +58,13 @@ pub(crate) fn ranking(heap: Global, frame: &ClosedFrame) -> anyhow::Result<Vec<u
     let places = frame.places() as usize;
     let mut order = Vec::from_elem(heap, 0u32, places)?;
     let mut queue: Heap<RankEntry> = Heap::new(heap, places)?;
-    if rank(frame, &mut order, &mut queue).is_err() {
-        return Err(anyhow!("the ranking finds no room"));
-    }
+    rank(frame, &mut order, &mut queue).map_err(|_| anyhow!("the ranking finds no room"))?;
     Ok(order)
 }
 
 // A plain oracle with all the memory that it wants.
 pub(crate) fn plain_oracle(heap: Global, frame: Rc<ClosedFrame>) -> anyhow::Result<PlainOracle> {
-    let blank = Record {
-        distance: None,
-        settled: false,
-        focused: false,
-    };
-    let records = Vec::from_elem(heap, blank, frame.places() as usize)?;
+    let records = Vec::from_elem(heap, Record::default(), frame.places() as usize)?;
     let queue: Heap<SearchEntry> = Heap::new(heap, 2 * frame.len() + 1)?;
     Ok(PlainOracle::new(frame, records, queue))
 }

@@ -5,16 +5,9 @@ use oracle::traits::DistanceOracle;
 use oracle::walk::walk;
 
 pub(crate) fn show_frame(rt: &HostRuntime, frame: &ClosedFrame) -> anyhow::Result<()> {
-    let places = frame.places();
-    let ducts = frame.len();
-    println!(rt; "Frame: {places} places, {ducts} ducts")?;
-    for i in 0..frame.len() {
-        if let Some(duct) = frame.duct(i) {
-            let first = duct.first();
-            let second = duct.second();
-            let length = duct.length();
-            println!(rt; "  {first}-{second} {length} mm")?;
-        }
+    println!(rt; "Frame: {} places, {} ducts", frame.places(), frame.len())?;
+    for duct in (0..frame.len()).filter_map(|i| frame.duct(i)) {
+        println!(rt; "  {duct}")?;
     }
     Ok(())
 }
@@ -32,10 +25,10 @@ pub(crate) fn show_order(rt: &HostRuntime, order: &[u32]) -> anyhow::Result<()> 
 fn show_row<O: DistanceOracle>(rt: &HostRuntime, oracle: &mut O, from: u32) -> anyhow::Result<()> {
     print!(rt; "  {from}:")?;
     for to in 0..oracle.places() {
-        match oracle.distance(from, to) {
-            Ok(Some(distance)) => print!(rt; " {distance:>5}")?,
-            Ok(None) => print!(rt; "     -")?,
-            Err(_) => return Err(anyhow!("a place is refused")),
+        let distance = oracle.distance(from, to);
+        match distance.map_err(|_| anyhow!("a place is refused"))? {
+            Some(distance) => print!(rt; " {distance:>5}")?,
+            None => print!(rt; "     -")?,
         }
     }
     println!(rt; "")?;
@@ -60,16 +53,14 @@ pub(crate) fn show_walk<O: DistanceOracle>(
     to: u32,
 ) -> anyhow::Result<()> {
     print!(rt; "  from {from} to {to}: {from}")?;
-    match walk(oracle, rt.alloc(), from, to) {
-        Ok(Some(legs)) => {
-            for leg in legs.as_slice() {
-                let place = leg.place;
-                let length = leg.length;
-                print!(rt; " -{length}- {place}")?;
+    let way = walk(oracle, rt.alloc(), from, to);
+    match way.map_err(|_| anyhow!("the walk is refused"))? {
+        Some(legs) => {
+            for leg in &legs {
+                print!(rt; " -{}- {}", leg.length, leg.place)?;
             }
         }
-        Ok(None) => print!(rt; ", no way")?,
-        Err(_) => return Err(anyhow!("the walk is refused")),
+        None => print!(rt; ", no way")?,
     }
     println!(rt; "")?;
     Ok(())

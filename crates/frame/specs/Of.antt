@@ -1,5 +1,5 @@
 -- What a clause reads of a duct and of a frame. Assumes nothing.
-use Rattle.std.specs.Prelude.{ℕ, List, vec_items}
+use Rattle.std.specs.Prelude.{ℕ, List, ◌++◌, codes, decimal, vec_items}
 use Rattle.ways.specs.declared.row.Row.{Row}
 use Rattle.frame.specs.declared.duct.Duct.{Duct}
 use Rattle.frame.specs.declared.frame.OpenFrame.{OpenFrame}
@@ -8,6 +8,10 @@ use Rattle.frame.specs.declared.frame.ClosedFrame.{ClosedFrame}
 -- the numbers of a duct, as a row
 abbrev pub duct_row : Duct → Row
 duct_row d = record { first = d.first; second = d.second; length = d.length }
+
+-- what a duct prints: its ends, and its length in millimetres
+abbrev pub duct_text : Duct → List ℕ
+duct_text d = decimal d.first ++ codes "-" ++ decimal d.second ++ codes " " ++ decimal d.length ++ codes " mm"
 
 -- how many places an open frame has
 abbrev pub open_places : OpenFrame → ℕ

@@ -1,6 +1,6 @@
 -- Rows that are ducts, and what holds of the rows of a frame. Assumes nothing.
-use Rattle.std.specs.Prelude.{◌≡◌, ℕ, ◌<◌, ◌≤◌, Bool, false, ◌&&◌, ◌||◌, List, [], ◌∷◌, length, ◌==◌, ◌≢◌, slice_index_or}
-use Rattle.std.specs.List.{AllByRecursion}
+use Rattle.std.specs.Prelude.{◌≡◌, ℕ, ◌<◌, ◌≤◌, Bool, ◌&&◌, List, length, ◌==◌, ◌≢◌, slice_index_or}
+use Rattle.std.specs.List.{AllByRecursion, list_any}
 use Rattle.ways.specs.declared.row.Row.{Row}
 use Rattle.ways.specs.Way.{Lawful}
 
@@ -20,8 +20,7 @@ row_at rows i = slice_index_or rows i no_row
 
 -- a row of the list has these ends, in this order
 abbrev pub paired : List Row → ℕ → ℕ → Bool
-paired [] a b = false
-paired (d ∷ ds) a b = (d.first == a && d.second == b) || paired ds a b
+paired rows a b = list_any (λ d. d.first == a && d.second == b) rows
 
 -- what holds of every frame of n places: no row fails the duct's check, and no pair is joined twice
 pub record Sound (n : ℕ) (rows : List Row) : Type 0 where

@@ -38,10 +38,9 @@ impl ClosedFrame {
     pub fn duct(&self, i: usize) -> Option<Duct>
         ensures { MatchOption result (length (rows_of self.now) ≤ i) (λ d. (i < length (rows_of self.now)) × (duct_row d ≡ row_at (rows_of self.now) i)) }
     {
-        if i >= self.rows.len() {
-            return None;
-        }
-        Some(Duct::of_sound(self.rows[i]))
+        // No `map`: what `of_sound` requires, a closure would have to require too.
+        let row = self.rows.get(i)?;
+        Some(Duct::of_sound(*row))
     }
 
     // The arcs that begin at a place, by where they end: none where it is no place.

@@ -1,7 +1,9 @@
 // A duct: a row that passed the check, with the smaller end first and a length within the limits.
 ghost use Rattle.std.specs.Prelude.{◌<◌, ◌≤◌};
 
+mod conversions;
 mod methods;
+mod shown;
 
 #[derive(Clone, Copy, PartialEq, Eq, Debug)]
 pub struct Duct {

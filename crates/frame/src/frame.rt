@@ -10,6 +10,7 @@ use ways::row::Row;
 #[derive(Drop)]
 pub struct OpenFrame {
     pub(crate) places: u32,
+    // A number of its own beside the rows: a Vec may hold more than was asked of it, and the room is a promise.
     pub(crate) room: u32,
     pub(crate) rows: Vec<Row>,
     pub(crate) offsets: Vec<usize>,
@@ -21,6 +22,7 @@ pub struct OpenFrame {
     ghost memory: { (room ≤ vec_capacity rows) × (2 * room ≤ vec_capacity arcs) },
 }
 
+// One list of arcs, with the offset of each place: a list for each place would want memory on closing, which cannot fail.
 #[derive(Drop)]
 pub struct ClosedFrame {
     pub(crate) places: u32,

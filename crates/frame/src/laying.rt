@@ -1,25 +1,15 @@
 // The offset of each place among arcs that are sorted by where they begin.
-ghost use Rattle.std.specs.Prelude.{ℕ, ◌<◌, ◌≤◌, length, slice_index};
+ghost use Rattle.std.specs.Prelude.{◌≡◌, ℕ, ◌<◌, length, nat_lt, slice_index};
 ghost use Rattle.std.specs.List.Sorted.{IsNonDecreasingBy};
-ghost use Rattle.frame.specs.Fans.{arc_at, Parted};
+ghost use Rattle.frame.specs.Fans.{Parted};
 
 use crate::arc::Arc;
 
-// The first arc from `at` on that does not begin before `place`.
-fn passed(arcs: &[Arc], at: usize, place: usize) -> usize
-    requires { at ≤ length arcs.now }
-    ensures bound { (at ≤ result) × (result ≤ length arcs.now) }
-    ensures before { (i : ℕ) → at ≤ i → i < result → (arc_at arcs.now i).from < place }
-    ensures after { result < length arcs.now → place ≤ (arc_at arcs.now result).from }
+// The arc begins before the place.
+fn is_before(arc: &Arc, place: usize) -> bool
+    ensures { result ≡ nat_lt arc.now.from place }
 {
-    let mut next = at;
-    while next < arcs.len() {
-        if (arcs[next].from as usize) >= place {
-            return next;
-        }
-        next += 1;
-    }
-    next
+    (arc.from as usize) < place
 }
 
 // Writes at each place how many arcs begin before it.
@@ -27,9 +17,7 @@ pub(crate) fn lay(arcs: &[Arc], offsets: &mut [usize])
     requires { IsNonDecreasingBy (λ a. a.from) arcs.now }
     ensures { (v : ℕ) → v < length offsets.new → Parted arcs.now v (slice_index offsets.new v) }
 {
-    let mut at = 0;
-    for v in 0..offsets.len() {
-        at = passed(arcs, at, v);
-        offsets[v] = at;
+    for (place, offset) in offsets.iter_mut().enumerate() {
+        *offset = arcs.partition_point(|arc| is_before(arc, place));
     }
 }

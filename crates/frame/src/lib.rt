@@ -2,6 +2,7 @@
 #![tactic(auto)]
 
 pub mod arc;
+mod checks;
 pub mod closed;
 pub mod duct;
 pub mod fault;

@@ -1,9 +1,11 @@
 // An open frame: its number of places is given, ducts are added, and it is closed.
-ghost use Rattle.std.specs.Prelude.{◌≡◌, min, [], ◌∷◌, ◌++◌, is_ok, IfOk, if◌then◌else◌};
+ghost use Rattle.std.specs.Prelude.{◌≡◌, ◌+◌, min, nat_le, length, [], ◌∷◌, ◌++◌, is_ok, IfOk, if◌then◌else◌};
 ghost use Rattle.frame.specs.Of.{open_places, open_room, open_rows, places_of, rows_of};
-ghost use Rattle.frame.specs.Verdict.{places_verdict, verdict, accepted};
+ghost use Rattle.frame.specs.Rows.{paired};
+ghost use Rattle.frame.specs.Verdict.{places_verdict, refuse, verdict, accepted};
 
 use crate::arc::Arc;
+use crate::checks::{check_ends, check_length};
 use crate::fault::FrameFault;
 use crate::frame::{ClosedFrame, OpenFrame};
 use crate::laying::lay;
@@ -11,6 +13,7 @@ use crate::scan::is_paired;
 use std::alloc::{AllocError, Global};
 use ways::row::Row;
 
+// Of a call that changes it, each part that stays is said: no type relates what was to what is.
 impl OpenFrame {
     // An emptied frame with room for so many ducts, at most 16,384. Fails only for want of memory.
     pub fn new(heap: Global, room: u32) -> Result<OpenFrame, AllocError>
@@ -114,22 +117,39 @@ impl OpenFrame {
     fn check(&self, row: Row) -> Result<(), FrameFault>
         ensures { result ≡ verdict (open_places self.now) (open_room self.now) (open_rows self.now) row }
     {
-        if row.length < 1 || row.length > 1_000_000 {
-            return Err(FrameFault::Length);
-        }
+        check_length(row)?;
+        self.check_room()?;
+        self.check_place(row.first)?;
+        self.check_place(row.second)?;
+        check_ends(row)?;
+        self.check_pair(row)
+    }
+
+    // There is room for one duct more.
+    fn check_room(&self) -> Result<(), FrameFault>
+        ensures { result ≡ refuse (nat_le (open_room self.now) (length (open_rows self.now))) (FrameFault.NoRoom (length (open_rows self.now) + 1)) accepted }
+    {
         let count = self.rows.len() as u32;
         if count >= self.room {
             return Err(FrameFault::NoRoom { needed: count + 1 });
         }
-        if row.first >= self.places {
-            return Err(FrameFault::NoPlace { place: row.first });
+        Ok(())
+    }
+
+    // The place is one of its own.
+    fn check_place(&self, place: u32) -> Result<(), FrameFault>
+        ensures { result ≡ refuse (nat_le (open_places self.now) place) (FrameFault.NoPlace place) accepted }
+    {
+        if place >= self.places {
+            return Err(FrameFault::NoPlace { place });
         }
-        if row.second >= self.places {
-            return Err(FrameFault::NoPlace { place: row.second });
-        }
-        if row.first >= row.second {
-            return Err(FrameFault::Ends { first: row.first });
-        }
+        Ok(())
+    }
+
+    // The ends of the row are not joined already.
+    fn check_pair(&self, row: Row) -> Result<(), FrameFault>
+        ensures { result ≡ refuse (paired (open_rows self.now) row.first row.second) (FrameFault.Ends row.first) accepted }
+    {
         if is_paired(&self.rows, row.first, row.second) {
             return Err(FrameFault::Ends { first: row.first });
         }

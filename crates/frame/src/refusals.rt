@@ -15,13 +15,10 @@ impl Refusal for FrameFault {
 
     fn number(&self) -> u32 {
         match self {
-            FrameFault::Places => 13,
-            FrameFault::Length => 13,
-            FrameFault::NoRoom { needed: _ } => 31,
-            FrameFault::NoPlace { place: _ } => 15,
-            FrameFault::Ends { first: _ } => 14,
-            FrameFault::Order { needed: _ } => 31,
-            FrameFault::Entries { needed: _ } => 31,
+            FrameFault::Places | FrameFault::Length => 13,
+            FrameFault::Ends { .. } => 14,
+            FrameFault::NoPlace { .. } => 15,
+            FrameFault::NoRoom { .. } | FrameFault::Order { .. } | FrameFault::Entries { .. } => 31,
         }
     }
 
@@ -30,14 +27,15 @@ impl Refusal for FrameFault {
     }
 
     fn spot(&self) -> u64 {
-        match self {
+        let spot = match self {
             FrameFault::Places => 1,
             FrameFault::Length => 3,
-            FrameFault::NoRoom { needed } => u64::from(*needed),
-            FrameFault::NoPlace { place } => u64::from(*place),
-            FrameFault::Ends { first } => u64::from(*first),
-            FrameFault::Order { needed } => u64::from(*needed),
-            FrameFault::Entries { needed } => u64::from(*needed),
-        }
+            FrameFault::NoPlace { place: spot }
+            | FrameFault::Ends { first: spot }
+            | FrameFault::NoRoom { needed: spot }
+            | FrameFault::Order { needed: spot }
+            | FrameFault::Entries { needed: spot } => *spot,
+        };
+        u64::from(spot)
     }
 }

@@ -8,10 +8,6 @@ use ways::row::Row;
 pub(crate) fn is_paired(rows: &[Row], first: u32, second: u32) -> bool
     ensures { result ≡ paired rows.now first second }
 {
-    for row in rows {
-        if row.first == first && row.second == second {
-            return true;
-        }
-    }
-    false
+    rows.iter()
+        .any(|row| row.first == first && row.second == second)
 }

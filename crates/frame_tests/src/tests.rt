@@ -2,6 +2,7 @@
 use faults::layer::Layer;
 use faults::refusal::Refusal;
 use frame::arc::Arc;
+use frame::duct::Duct;
 use frame::fault::FrameFault;
 use frame::frame::OpenFrame;
 use frame::order::compare;
@@ -83,6 +84,21 @@ fn neighbours(rt: HostRuntime) -> Result<(), Fail> {
     let near = closed.neighbours(3);
     assert!(rt; near.len() == 3);
     assert_eq!(rt; (near[0].to, near[1].to, near[2].to), (0, 2, 4));
+    Ok(())
+}
+
+#[test]
+fn ducts(rt: HostRuntime) -> Result<(), Fail> {
+    let lawful = row(1, 2, 1_000_000);
+    let duct = Duct::try_from(lawful)?;
+    assert_eq!(rt; (duct.first(), duct.second()), (1, 2));
+    assert_eq!(rt; Row::from(duct), lawful);
+    assert_eq!(rt; duct.to_string(rt.alloc())?.as_str(), "1-2 1000000 mm");
+    assert_eq!(rt; Duct::try_from(row(2, 2, 0)), Err(FrameFault::Length));
+    assert_eq!(rt;
+        Duct::try_from(row(2, 2, 5)),
+        Err(FrameFault::Ends { first: 2 })
+    );
     Ok(())
 }
 

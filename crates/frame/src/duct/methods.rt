@@ -1,27 +1,12 @@
-// How a duct is made of a row, and what it tells.
-ghost use Rattle.std.specs.Prelude.{◌≡◌, Err, MatchResult};
+// What a duct tells.
+ghost use Rattle.std.specs.Prelude.{◌≡◌};
 ghost use Rattle.frame.specs.Of.{duct_row};
 ghost use Rattle.frame.specs.Rows.{IsDuct};
-ghost use Rattle.frame.specs.Verdict.{duct_verdict, accepted};
 
 use crate::duct::Duct;
-use crate::fault::FrameFault;
 use ways::row::Row;
 
 impl Duct {
-    // The row as a duct, by one check: its length, then its ends.
-    pub fn from_row(row: Row) -> Result<Duct, FrameFault>
-        ensures { MatchResult result (λ d. (duct_verdict row ≡ accepted) × (duct_row d ≡ row)) (λ e. duct_verdict row ≡ Err e) }
-    {
-        if row.length < 1 || row.length > 1_000_000 {
-            return Err(FrameFault::Length);
-        }
-        if row.first >= row.second {
-            return Err(FrameFault::Ends { first: row.first });
-        }
-        Ok(Duct::of_sound(row))
-    }
-
     // The row as a duct, with no check: it is known to be one.
     pub(crate) fn of_sound(row: Row) -> Duct
         requires { IsDuct row }

@@ -1,4 +1,4 @@
-use Rattle.std.proofs.Common.{ℕ, zero, suc, ◌+◌, ◌<◌, [], ◌∷◌, get_or, refl, inl, inr, arith}
+use Rattle.std.proofs.Common.{ℕ, zero, suc, ◌+◌, ◌<◌, [], ◌∷◌, get_or, refl, inl, inr, arith, rules}
 use Rattle.frame.specs.Neighbours.{degree}
 use Rattle.ranking.specs.Ranking.{Before}
 use Rattle.measured.specs.Example.{ducts}
@@ -7,11 +7,7 @@ use Rattle.measured.proofs.frame_ranking.Goals as goal
 pub returns : goal.returns
 unfolding degree
 returns c = record {
-  each = record {
-    count = refl;
-    inside = (omega arith, (omega arith, (omega arith, (omega arith, (omega arith, tt)))));
-    apart = ((λ e. omega arith, (λ e. omega arith, (λ e. omega arith, (λ e. omega arith, tt)))), ((λ e. omega arith, (λ e. omega arith, (λ e. omega arith, tt))), ((λ e. omega arith, (λ e. omega arith, tt)), ((λ e. omega arith, tt), (tt, tt)))));
-  };
+  each = search rules;
   before = at;
 }
   where
