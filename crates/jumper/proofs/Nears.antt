@@ -1,18 +1,16 @@
 -- The nearest of a group, with one more duct. Assumes nothing.
 use Rattle.std.proofs.Common.{◌≡◌, ℕ, ◌+◌, ◌<◌, ◌≤◌, Bool, true, false, eqb, ltb, leb, IfSome, Some, None, Ok, Err, Option, Result, sym, refl, ap, ◌∙◌, subst, arith, ltb-false, ltb-true, eqb-true, leb-false, leb-true}
 use borrow.Author.Tests.{eqb-false}
-use Rattle.std.specs.Option.{option_map}
-use Rattle.ways.specs.declared.near.Near.{Near}
+use Rattle.ways.specs.declared.row.Row.{Row}
 use Rattle.ways.specs.Options.{pick, within, lesser, through}
 use Rattle.ways.specs.Way.{LawfulDuct}
-use Rattle.ways.specs.Nearest.{Later, Nearest}
+use Rattle.ways.specs.Nearest.{Near, Later, Nearest}
 use Rattle.ways.proofs.Graph.{pick_has}
 use Rattle.oracle.specs.declared.fault.OracleFault.{OracleFault}
-use Rattle.jumper.specs.declared.sights.Sight.{Sight}
 use Rattle.oracle.specs.Meaning.{Meaning, Sound, far}
 use Rattle.oracle.specs.Answers.{Focused}
-use Rattle.jumper.specs.Jumped.{duct, crossing, least, with_duct}
-use Rattle.jumper.specs.Crossings.{farther, via, sooner, near_of, Finds}
+use Rattle.jumper.specs.Jumped.{crossing, least, with_duct}
+use Rattle.jumper.specs.Crossings.{farther, via, sooner, Finds, Seen}
 use Rattle.oracle.proofs.Meanings.{far_short}
 use Rattle.jumper.specs.Sounds.{three_sums, with_duct_sound}
 
@@ -110,22 +108,22 @@ pub focused_as : (k m : Meaning) (v : ℕ) (f e : ℕ → Bool) (r : Result (Uni
 focused_as k m v f e (Ok _) c h = (omega (arith, h.0), h.1)
 focused_as k m v f e (Err x) c h = (omega (arith, h.0), h.1, h.2)
 
--- what is found is found by an equal meaning and focus
-pub finds_at : (m k : Meaning) (f e : ℕ → Bool) (x : ℕ) (p : Option Near) → k ≡ m → e ≡ f → Finds k e x p → Finds m f x p
-finds_at m k f e x p q r s = subst (λ (n : Meaning). Finds n f x p) q (subst (λ (l : ℕ → Bool). Finds k l x p) r s)
+-- the soonest of three is found with the duct: from v, from the second end seen from v over the first, from the first over the second
+pub finds_seen : (m : Meaning) (focus : ℕ → Bool) (d : Row) (v : ℕ) (o : Option Near) → Sound m → LawfulDuct m.count d → Seen m focus d v (Ok o) → Finds (with_duct m d.first d.second d.length) focus v o
+finds_seen m focus d v o s l (iv, (p, q, r, np, (x, nx, ex), (y, ny, ey), e)) =
+    let a = d.first in
+    let b = d.second in
+    let len = d.length in
+    let is : o ≡ sooner p (sooner (via (far m v a) len x) (via (far m v b) len y)) = cc in
+    subst (Finds (with_duct m a b len) focus v) (sym is)
+    (nearest_by m.count focus (least m a b len v) (far (with_duct m a b len) v) _ (λ g ig. sym (three_sums m a b len v g s l iv ig))
+    (nearest_lesser m.count focus (far m v) (λ g. lesser (crossing m a b len v g) (crossing m b a len v g)) p _ np
+    (nearest_lesser m.count focus (crossing m a b len v) (crossing m b a len v) (via (far m v a) len x) (via (far m v b) len y)
+    (nearest_through m.count focus (far m b) (far m v a) len x nx)
+    (nearest_through m.count focus (far m a) (far m v b) len y ny))))
 
-module _ (m : Meaning) (a b len : ℕ) (s : Sound m) (l : LawfulDuct m.count (duct a b len)) (focus : ℕ → Bool) (v : ℕ) (iv : v < m.count) where
-  -- the soonest of three: from v, from b seen from v over a, from a seen from v over b
-  pub finds_with : (p q r o : Option Near) → Finds m focus v p → Finds m focus b q → Finds m focus a r → o ≡ sooner p (sooner (via (far m v a) len q) (via (far m v b) len r)) → Finds (with_duct m a b len) focus v o
-  finds_with p q r o np nq nr e =
-      subst (Finds (with_duct m a b len) focus v) (sym e)
-      (nearest_by m.count focus (least m a b len v) (far (with_duct m a b len) v) _ (λ g ig. sym (three_sums m a b len v g s l iv ig))
-      (nearest_lesser m.count focus (far m v) (λ g. lesser (crossing m a b len v g) (crossing m b a len v g)) p _ np
-      (nearest_lesser m.count focus (crossing m a b len v) (crossing m b a len v) (via (far m v a) len q) (via (far m v b) len r)
-      (nearest_through m.count focus (far m b) (far m v a) len q nq)
-      (nearest_through m.count focus (far m a) (far m v b) len r nr))))
-
-  -- what is found lies at a distance, which fits 32 bits
-  pub sight_short : (o : Option Sight) → Finds (with_duct m a b len) focus v (option_map near_of o) → IfSome o (λ t. t.distance ≤ 4095000000)
-  sight_short None n = tt
-  sight_short (Some t) n = far_short (with_duct m a b len) v t.place t.distance (with_duct_sound m a b len s l) iv n.2
+-- and lies at a distance, which fits 32 bits
+pub seen_short : (m : Meaning) (focus : ℕ → Bool) (d : Row) (v : ℕ) (o : Option Near) → Sound m → LawfulDuct m.count d → Seen m focus d v (Ok o) → IfSome o (λ t. t.distance ≤ 4095000000)
+seen_short m focus d v None s l h = tt
+seen_short m focus d v (Some t) s l h =
+    far_short (with_duct m d.first d.second d.length) v t.place t.distance (with_duct_sound m d.first d.second d.length s l) h.0 (finds_seen m focus d v (Some t) s l h).2

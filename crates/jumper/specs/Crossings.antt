@@ -1,27 +1,26 @@
 -- What a jumper works out on the way to its answers. Assumes nothing.
 use Rattle.std.specs.Prelude.{◌≡◌, ℕ, ◌+◌, ◌<◌, ◌≤◌, Bool, true, false, Some, None, Ok, Err, Option, Result, ◌==◌, nat_le, nat_lt}
 use Rattle.std.specs.Option.{option_map}
-use Rattle.ways.specs.declared.near.Near.{Near}
-use Rattle.ways.specs.Nearest.{Nearest}
+use Rattle.ways.specs.Nearest.{Near, Nearest}
+use Rattle.ways.specs.declared.row.Row.{Row}
 use Rattle.ways.specs.Options.{pick, within}
 use Rattle.oracle.specs.declared.fault.OracleFault.{OracleFault}
 use Rattle.oracle.specs.declared.fault.OracleFault.TheVariants.{NoPlace}
-use Rattle.jumper.specs.declared.sights.Sight.{Sight}
-use Rattle.jumper.specs.declared.sums.Crossing.{Crossing}
 use Rattle.jumper.specs.declared.sums.Sums.{Sums}
 use Rattle.oracle.specs.Meaning.{Meaning, far}
 use Rattle.oracle.specs.Answers.{Outside}
-use Rattle.jumper.specs.Jumped.{crossing}
+use Rattle.jumper.specs.Jumped.{crossing, turned}
 
 -- the lengths of the three ways from u to v that a shortest one may be
-abbrev pub Summed : Meaning → ℕ → ℕ → ℕ → ℕ → ℕ → Result Sums OracleFault → Type 0
-Summed m a b len u v (Ok s) =
-    (u < m.count) × (v < m.count) × (s.direct ≡ far m u v) × (s.there ≡ crossing m a b len u v) × (s.back ≡ crossing m b a len u v)
-Summed m a b len u v (Err e) = Outside m.count u v e
+abbrev pub Summed : Meaning → Row → ℕ → ℕ → Result Sums OracleFault → Type 0
+Summed m d u v (Ok s) =
+    (u < m.count) × (v < m.count) × (s.direct ≡ far m u v)
+    × (s.there ≡ crossing m d.first d.second d.length u v) × (s.back ≡ crossing m d.second d.first d.length u v)
+Summed m d u v (Err e) = Outside m.count u v e
 
--- the duct from a to b, or from b to a where that is the shorter way
-abbrev pub chosen : ℕ → ℕ → Sums → Crossing
-chosen a b s = pick (within s.there s.back) (record { near = a; there = b }) (record { near = b; there = a })
+-- the duct, or the duct from its other end where that is the shorter way
+abbrev pub chosen : Row → Sums → Row
+chosen d s = pick (within s.there s.back) d (turned d)
 
 -- a length that fits 32 bits, where there is one
 abbrev pub Brief : Option ℕ → Type 0
@@ -47,17 +46,17 @@ sooner None q = q
 sooner (Some p) None = Some p
 sooner (Some p) (Some q) = pick (before p q) (Some p) (Some q)
 
--- what is seen, as a place and its distance
-abbrev pub near_of : Sight → Near
-near_of s = record { place = s.place; distance = s.distance }
-
 -- the nearest place in focus from x
 abbrev pub Finds : Meaning → (ℕ → Bool) → ℕ → Option Near → Type 0
 Finds m focus x p = Nearest m.count focus (far m x) p
 
--- the soonest of what is found from v, from b over a, and from a over b
-abbrev pub Seen : Meaning → (ℕ → Bool) → ℕ → ℕ → ℕ → ℕ → Result (Option Sight) OracleFault → Type 0
-Seen m focus a b len v (Ok s) =
-    (v < m.count) × ((p : Option Near) × (q : Option Near) × (r : Option Near) × Finds m focus v p × Finds m focus b q × Finds m focus a r
-    × (option_map near_of s ≡ sooner p (sooner (via (far m v a) len q) (via (far m v b) len r))))
-Seen m focus a b len v (Err e) = (m.count ≤ v) × (e ≡ NoPlace v)
+-- what is found from the duct's second end, seen from v over its first
+abbrev pub SeenOver : Meaning → (ℕ → Bool) → Row → ℕ → Option Near → Type 0
+SeenOver m focus d v s = (p : Option Near) × Finds m focus d.second p × (s ≡ via (far m v d.first) d.length p)
+
+-- the soonest of what is found from v, and of what is seen over the duct from either end
+abbrev pub Seen : Meaning → (ℕ → Bool) → Row → ℕ → Result (Option Near) OracleFault → Type 0
+Seen m focus d v (Ok s) =
+    (v < m.count) × ((p : Option Near) × (q : Option Near) × (r : Option Near)
+    × Finds m focus v p × SeenOver m focus d v q × SeenOver m focus (turned d) v r × (s ≡ sooner p (sooner q r)))
+Seen m focus d v (Err e) = (m.count ≤ v) × (e ≡ NoPlace v)

@@ -11,6 +11,10 @@ use Rattle.oracle.specs.Meaning.{Meaning, far}
 abbrev pub duct : ℕ → ℕ → ℕ → Row
 duct a b len = record { first = a; second = b; length = len }
 
+-- the duct from its other end
+abbrev pub turned : Row → Row
+turned d = duct d.second d.first d.length
+
 -- what is said of such a duct over n places: the length is judged first, then a, then b, and then whether they differ
 unfoldable pub verdict : ℕ → ℕ → ℕ → ℕ → Result (Unit {0}) OracleFault
 verdict n a b len =

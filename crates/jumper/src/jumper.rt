@@ -1,29 +1,32 @@
 // An oracle laid over another: the same places, and one more duct.
 ghost use Rattle.std.specs.Prelude.{◌≡◌};
-ghost use Rattle.jumper.specs.Jumped.{verdict, accepted};
+ghost use Rattle.jumper.specs.Jumped.{duct, verdict, accepted};
+ghost use Rattle.jumper.specs.Verdicts.{Taken};
 
 use oracle::fault::OracleFault;
 use oracle::traits::DistanceOracle;
+use ways::places::first_outside;
+use ways::row::Row;
 
-// A duct of this length between a and b over the oracle below.
+// One more duct, over the oracle below.
 #[derive(Drop)]
 pub struct Jumper<O> {
     pub(crate) below: O,
-    pub(crate) a: u32,
-    pub(crate) b: u32,
-    pub(crate) length: u32,
+    pub(crate) duct: Row,
 }
 
 impl<O> Jumper<O> {
     // Always makes one. A duct that `check` refuses is not there: all is answered as below.
     pub fn new(below: O, a: u32, b: u32, length: u32) -> Jumper<O>
-        ensures { (result.below ≡ below) × (result.a ≡ a) × (result.b ≡ b) × (result.length ≡ length) }
+        ensures { (result.below ≡ below) × (result.duct ≡ duct a b length) }
     {
         Jumper {
             below,
-            a,
-            b,
-            length,
+            duct: Row {
+                first: a,
+                second: b,
+                length,
+            },
         }
     }
 
@@ -31,40 +34,36 @@ impl<O> Jumper<O> {
     pub fn into_below(self) -> O
         ensures { result ≡ self.below }
     {
-        let Jumper {
-            below,
-            a: _,
-            b: _,
-            length: _,
-        } = self;
-        below
+        self.below
     }
 }
 
 impl<O: DistanceOracle> Jumper<O> {
     // Whether the duct is one: a length from 1 to 1,000,000 between two different places.
+    #[tactic(auto, unfolding(crate::specs::Jumped::verdict))]
     pub fn check(&self) -> Result<(), OracleFault>
-        ensures { result ≡ verdict (O.DistanceOracle.meaning self.now.below).count self.now.a self.now.b self.now.length }
+        ensures { result ≡ verdict (O.DistanceOracle.meaning self.now.below).count self.now.duct.first self.now.duct.second self.now.duct.length }
     {
         let n = self.below.places();
-        if self.length < 1 || self.length > 1_000_000 {
+        if !(1..=1_000_000).contains(&self.duct.length) {
             return Err(OracleFault::Limit { which: 3 });
         }
-        if self.a >= n {
-            return Err(OracleFault::NoPlace { place: self.a });
+        if let Some(place) = first_outside(n, &[self.duct.first, self.duct.second]) {
+            return Err(OracleFault::NoPlace { place });
         }
-        if self.b >= n {
-            return Err(OracleFault::NoPlace { place: self.b });
-        }
-        if self.a == self.b {
-            return Err(OracleFault::EqualEnds { end: self.a });
+        if self.duct.first == self.duct.second {
+            return Err(OracleFault::EqualEnds {
+                end: self.duct.first,
+            });
         }
         Ok(())
     }
 
     // Whether `check` accepts the duct.
+    #[tactic(auto, using(crate::specs::Verdicts::taken))]
     pub(crate) fn takes(&self) -> bool
-        ensures { result ≡ accepted (O.DistanceOracle.meaning self.now.below).count self.now.a self.now.b self.now.length }
+        ensures means { Taken (O.DistanceOracle.meaning self.now.below) self.now.duct result }
+        ensures value { result ≡ accepted (O.DistanceOracle.meaning self.now.below).count self.now.duct.first self.now.duct.second self.now.duct.length }
     {
         self.check().is_ok()
     }

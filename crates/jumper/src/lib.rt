@@ -1,4 +1,5 @@
 // The jumper: one more duct laid over any oracle.
+// What a call leaves as it was is said of each call: no type relates what was to what is.
 #![tactic(auto)]
 
 pub mod group;

@@ -1,70 +1,38 @@
-// The nearest place as it is seen without a jumper's duct and over it.
+// The nearest place as it is seen without a jumper's duct and over it, by lengths that may be too long for a distance.
 ghost use Rattle.std.specs.Prelude.{◌≡◌, ◌≤◌, IfSome};
-ghost use Rattle.std.specs.Option.{option_map};
-ghost use Rattle.jumper.specs.Crossings.{near_of, via, sooner};
+ghost use Rattle.jumper.specs.Crossings.{via, sooner};
 
+use ways::lesser::lesser;
 use ways::near::Near;
 
-// A place and the length of a way to it, which may be too long for a distance.
-#[derive(Clone, Copy)]
-pub(crate) struct Sight {
-    pub(crate) place: u32,
-    pub(crate) distance: u64,
-}
-
-// What is found without the duct.
-pub(crate) fn seen_here(found: Option<Near>) -> Option<Sight>
-    ensures { option_map near_of result ≡ found }
-{
-    match found {
-        Some(near) => Some(Sight {
-            place: near.place,
-            distance: u64::from(near.distance),
-        }),
-        None => None,
-    }
-}
-
 // What is found from one end of the duct, from as far before its other end.
-pub(crate) fn seen_via(first: Option<u32>, length: u32, found: Option<Near>) -> Option<Sight>
-    ensures { option_map near_of result ≡ via first length found }
+pub(crate) fn seen_via(
+    first: Option<u32>,
+    length: u32,
+    found: Option<Near<u32>>,
+) -> Option<Near<u64>>
+    ensures { result ≡ via first length found }
 {
-    match (first, found) {
-        (Some(d), Some(near)) => Some(Sight {
-            place: near.place,
-            distance: u64::from(d) + u64::from(length) + u64::from(near.distance),
-        }),
-        _ => None,
-    }
+    first.zip(found).map(|(d, near)| Near {
+        distance: u64::from(d) + u64::from(length) + u64::from(near.distance),
+        place: near.place,
+    })
 }
 
-// The nearer, and of the smaller number where both are as near.
-pub(crate) fn sooner_of(one: Option<Sight>, other: Option<Sight>) -> Option<Sight>
-    ensures { option_map near_of result ≡ sooner (option_map near_of one) (option_map near_of other) }
+// The nearer, and of the smaller number where both are as near: `lesser`, in the words of a jumper's definitions.
+pub(crate) fn sooner_of(one: Option<Near<u64>>, other: Option<Near<u64>>) -> Option<Near<u64>>
+    ensures { result ≡ sooner one other }
 {
-    match (one, other) {
-        (None, _) => other,
-        (Some(_), None) => one,
-        (Some(p), Some(q)) => {
-            if p.distance < q.distance || (p.distance == q.distance && p.place <= q.place) {
-                one
-            } else {
-                other
-            }
-        }
-    }
+    lesser(one, other)
 }
 
-// What is seen at a distance, which fits 32 bits.
-pub(crate) fn found_of(seen: Option<Sight>) -> Option<Near>
+// What is seen at a distance, which is known to fit 32 bits: a `try_from` would refuse, and nothing is to be refused.
+pub(crate) fn found_of(seen: Option<Near<u64>>) -> Option<Near<u32>>
     requires { IfSome seen (λ s. s.distance ≤ 4095000000) }
-    ensures { result ≡ option_map near_of seen }
+    ensures { result ≡ seen }
 {
-    match seen {
-        Some(s) => Some(Near {
-            place: s.place,
-            distance: s.distance as u32,
-        }),
-        None => None,
-    }
+    seen.map(|s| Near {
+        distance: s.distance as u32,
+        place: s.place,
+    })
 }

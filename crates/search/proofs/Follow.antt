@@ -54,9 +54,6 @@ follow_all ds ls u m s i rs q near le h =
         near.whole w len j (All-from_get_or (λ a. a.to ≡ w → a.length ≡ len → ⊥) ls no_arc (λ k l e g.
         none (subst (λ (x : ℕ). AtMost (known rs x) (m + len)) e (subst (λ (x : ℕ). AtMost (known rs (arc_at ls k).to) (m + x)) g (h.2 k (omega arith)))))))
 
-pub follow_none : (ds : List Row) (ls : List Arc) (u n s : ℕ) (rs : List Record) (q : List SearchEntry) → known rs u ≡ Some n → Kept ds (But ds u) s n (known rs) (done rs) q → Following ds ls u n 0 s rs q
-follow_none ds ls u n s rs q is k = (k, is, λ j a. absurd (omega arith))
-
 pub follow_more : (m : ℕ) (ds : List Row) (ls : List Arc) (u i : ℕ) (arc : Arc) → Met m ds ls u i arc → (n s : ℕ) (rs : List Record) (q : List SearchEntry) (rs' : List Record) (q' : List SearchEntry) → Stepped rs q arc.to (n + arc.length) rs' q' → Following ds ls u n i s rs q → Following ds ls u n (i + 1) s rs' q'
 follow_more m ds ls u i arc a n s rs q rs' q' st h = (
   st.keeps ds (But ds u) s n (omega arith) (onward ds s u arc.to n arc.length (subst (Reached ds s u) h.1 (h.0.ways u)) a.joined) h.0,

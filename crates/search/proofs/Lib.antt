@@ -1,8 +1,8 @@
 pub mod Counts
 pub mod Follow
+pub mod Lends
 pub mod Lights
 pub mod Memory
-pub mod Nears
 pub mod Parts
 pub mod Steps
 pub mod Theory

@@ -1,13 +1,14 @@
 -- What the plain oracle tells, from the records of a search towards the goal. Assumes nothing.
-use Rattle.std.proofs.Common.{◌≡◌, ℕ, ◌*◌, ◌<◌, ◌≤◌, Bool, true, false, ltb, leb, List, length, Some, None, Option, sym, refl, ap, ◌∙◌, subst, arith, ltb-true, ne_eqb, leb-true}
+use Rattle.std.proofs.Common.{◌≡◌, ℕ, ◌*◌, ◌<◌, ◌≤◌, Bool, true, false, ltb, leb, List, length, get_or, Some, None, Option, sym, refl, ap, ◌∙◌, subst, arith, ltb-true, ne_eqb, leb-true}
 use mathlib.Core.Path.{fun_ext}
 use native.Mathlib.Decide.{dec_le}
 use Rattle.std.proofs.lemmas.Bool.{both_ways}
+use Rattle.std.proofs.lemmas.List.{get_or_read}
 use Rattle.std.proofs.ByRecursion.{All-from_get_or, All-get_or}
 use Rattle.ways.specs.declared.row.Row.{Row}
 use Rattle.ways.specs.Way.{Joined, Lawful}
 use Rattle.ways.specs.Options.{pick, plus}
-use Rattle.ways.specs.declared.near.Near.{Near}
+use Rattle.ways.specs.Nearest.{Near}
 use Rattle.ways.specs.Distance.{distance}
 use Rattle.ways.specs.Nearest.{Nearest}
 use Rattle.ways.proofs.Graph.{to_in}
@@ -19,7 +20,7 @@ use Rattle.oracle.specs.declared.step.Step.TheVariants.{Here, NoWay, Next}
 use Rattle.oracle.specs.Meaning.{Meaning, far}
 use Rattle.oracle.specs.Answers.{step_for, step_of}
 use Rattle.search.specs.declared.record.Record.{Record}
-use Rattle.search.specs.State.{known, lit}
+use Rattle.search.specs.State.{blank, known, lit}
 use Rattle.search.specs.Plain.{alike, onward, plain_rule, nowhere, enough, plain_meaning}
 use Rattle.search.specs.Scan.{leads_on, Chosen}
 use Rattle.search.specs.Rules.{Least, least_once, rule_least}
@@ -27,6 +28,10 @@ use Rattle.search.specs.Rules.{Least, least_once, rule_least}
 -- the frame as an oracle's meaning
 abbrev pub framed : ℕ → List Row → Meaning
 framed n ds = record { count = n; ducts = ds; rule = plain_rule n ds }
+
+-- a record that is read tells what is known of its place
+pub known_read : (rs : List Record) (u : ℕ) (r : Record) {o : Option ℕ} → u < length rs → r ≡ get_or rs u r → r.distance ≡ o → known rs u ≡ o
+known_read rs u r inside read tells = sym (ap (λ (x : Record). x.distance) (get_or_read rs u r inside read blank)) ∙ tells
 
 -- what enough memory is
 pub enough_records : (n m k r : ℕ) → enough n m k r ≡ true → n ≤ k
@@ -56,7 +61,7 @@ module _ (n : ℕ) (ds : List Row) (lawful : Lawful n ds) (u v : ℕ) (iu : u < 
   arc_joined i l = All-get_or (λ a. Joined ds u a.to a.length) ls i no_arc l near.joined
 
   -- the other ends are places
-  pub ends_within : (i : ℕ) → i < length ls → (arc_at ls i).to < n
+  ends_within : (i : ℕ) → i < length ls → (arc_at ls i).to < n
   ends_within i l = to_in n ds u (arc_at ls i).to (arc_at ls i).length lawful (arc_joined i l)
 
   -- the test of the code is that of the rule

@@ -1,14 +1,18 @@
 -- One entry that is taken from the heap. Assumes nothing.
-use Rattle.std.proofs.Common.{◌≡◌, ℕ, ◌+◌, ◌<◌, ◌≤◌, Bool, true, false, not, List, ◌∷◌, length, Some, sym, refl, ap, ◌∙◌, subst, arith}
+use Rattle.std.proofs.Common.{◌≡◌, ℕ, ◌+◌, ◌<◌, ◌≤◌, true, false, List, ◌∷◌, length, Some, sym, ap, ◌∙◌, subst, arith}
 use native.Mathlib.Decide.{ℕ_discrete, dec_le}
 use Rattle.std.specs.List.{AllByRecursion}
 use Rattle.std.specs.List.Sorted.{IsPermutation}
 use Rattle.std.proofs.ByRecursion.{All-weaker, all_shuffled}
 use Rattle.std.proofs.lemmas.List.{get_or_past}
-use Rattle.std.proofs.lemmas.Bool.{both_ways}
 use Rattle.heap.specs.declared.search.SearchEntry.{SearchEntry}
 use Rattle.heap.specs.Entries.{sooner}
+use Rattle.heap.specs.Bag.{Popped}
+use Rattle.heap.specs.Order.{Heaped}
 use Rattle.heap.proofs.Orders.{sooner_nearer}
+use Rattle.frame.specs.declared.frame.ClosedFrame.{ClosedFrame}
+use Rattle.frame.specs.Of.{places_of, rows_of}
+use Rattle.frame.proofs.Facts.{closed_few, closed_lawful}
 use Rattle.ways.specs.declared.row.Row.{Row}
 use Rattle.ways.specs.Way.{Joined, Lawful}
 use Rattle.ways.specs.Options.{AtMost}
@@ -89,10 +93,7 @@ visit n ds few lawful rs size s q q' e source k bag before = record {
   lessens = less n ds few lawful rs size s k.0 q q' e source k.1 bag before;
 }
 
-pub not_true : (b : Bool) → not b ≡ true → b ≡ false
-not_true true h = absurd (both_ways false refl h)
-not_true false h = refl
-
-pub not_false : (b : Bool) → not b ≡ false → b ≡ true
-not_false true h = refl
-not_false false h = absurd (both_ways true h refl)
+-- the same of an entry that a heap in order gives
+pub turn : (f : ClosedFrame) (rs : List Record) → length rs ≡ places_of f → (s : ℕ) {q q' : List SearchEntry} {e : SearchEntry} → s < places_of f → ((floor : ℕ) × Kept (rows_of f) (Joined (rows_of f)) s floor (known rs) (done rs) q) → Heaped sooner q → Popped sooner e q q' → Visit (places_of f) (rows_of f) rs s q' e
+turn f rs size s {q} {q'} {e} source k ordered told =
+    visit (places_of f) (rows_of f) (closed_few f) (closed_lawful f) rs size s q q' e source k told.shuffled (told.first ordered)

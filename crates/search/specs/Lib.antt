@@ -1,3 +1,4 @@
+pub mod Memory
 pub mod Of
 pub mod Plain
 pub mod Scan

@@ -1,7 +1,6 @@
 -- What a scan of neighbours and a scan of records find. Assumes nothing.
-use Rattle.std.specs.Prelude.{◌≡◌, ℕ, ◌<◌, Bool, true, List, length, Some, None, Option, ◌≢◌, nat_lt}
-use Rattle.ways.specs.declared.near.Near.{Near}
-use Rattle.ways.specs.Options.{pick, plus}
+use Rattle.std.specs.Prelude.{◌≡◌, ℕ, ◌<◌, Bool, true, List, length, Some, None, Option, ◌≢◌}
+use Rattle.ways.specs.Options.{plus}
 use Rattle.frame.specs.declared.arc.Arc.{Arc}
 use Rattle.frame.specs.Fans.{arc_at}
 use Rattle.search.specs.declared.record.Record.{Record}
@@ -20,9 +19,3 @@ Passed rs ls d k = (i : ℕ) → i < k → leads_on rs ls d i ≢ true
 abbrev pub Chosen : List Record → List Arc → ℕ → Option Arc → Type 0
 Chosen rs ls d None = Passed rs ls d (length ls)
 Chosen rs ls d (Some a) = (k : ℕ) × (k < length ls) × (a ≡ arc_at ls k) × Passed rs ls d k × (leads_on rs ls d k ≡ true)
-
--- the nearer of the best so far and a place of a greater number
-abbrev pub improved : Option Near → ℕ → Option ℕ → Option Near
-improved best place None = best
-improved None place (Some d) = Some (record { place = place; distance = d })
-improved (Some b) place (Some d) = pick (nat_lt d b.distance) (Some (record { place = place; distance = d })) (Some b)

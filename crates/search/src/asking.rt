@@ -1,8 +1,6 @@
 // What the plain oracle answers: each question is one search.
 ghost use Rattle.std.specs.Prelude.{◌≡◌, ℕ, ◌<◌, ◌≤◌, Bool, true, false, length, Ok, Err, vec_len, ◌≢◌, nat_lt};
-ghost use Rattle.ways.specs.Options.{pick};
 ghost use Rattle.ways.specs.Distance.{distance as far_apart};
-ghost use Rattle.oracle.specs.declared.fault.OracleFault.TheVariants.{NoPlace};
 ghost use Rattle.oracle.specs.Answers.{step_of};
 ghost use Rattle.ways.specs.Nearest.{Nearest};
 ghost use Rattle.oracle.specs.Meaning.{far};
@@ -13,6 +11,7 @@ ghost use Rattle.search.specs.Rules.{plain_sound};
 ghost use Rattle.std.proofs.Common.{rules, arith};
 
 use crate::dijkstra::run;
+use crate::needs::inside;
 use crate::plain::PlainOracle;
 use crate::scan::{first_onward, nearest_lit, unlight};
 use oracle::fault::OracleFault;
@@ -20,17 +19,7 @@ use oracle::step::Step;
 use oracle::traits::{DistanceOracle, GroupOracle};
 use ways::near::Near;
 
-// Refuses what is not below the number of places.
-fn inside(places: u32, place: u32) -> Result<(), OracleFault>
-    ensures { result ≡ pick (nat_lt place places) (Ok tt) (Err (NoPlace place)) }
-{
-    if place < places {
-        Ok(())
-    } else {
-        Err(OracleFault::NoPlace { place })
-    }
-}
-
+// With too little memory this is an oracle of no places, so the type can't promise enough: who asks finds it out first.
 impl PlainOracle {
     // Gives each record its distance from the source.
     fn measure(&mut self, source: u32)
@@ -74,7 +63,7 @@ impl PlainOracle {
     }
 
     // The place in focus that is nearest to v.
-    fn nearest_to(&mut self, v: u32) -> Option<Near>
+    fn nearest_to(&mut self, v: u32) -> Option<Near<u32>>
         requires ready { ready self.old ≡ true }
         requires within { v < frame_places self.old }
         ensures value { Nearest (meaning_of self.old).count (focus_of self.old) (far (meaning_of self.old) v) result }
@@ -139,7 +128,7 @@ impl GroupOracle for PlainOracle {
         Ok(())
     }
 
-    fn nearest(&mut self, v: u32) -> Result<Option<Near>, OracleFault> {
+    fn nearest(&mut self, v: u32) -> Result<Option<Near<u32>>, OracleFault> {
         inside(self.places(), v)?;
         Ok(self.nearest_to(v))
     }

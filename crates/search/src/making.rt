@@ -6,6 +6,7 @@ ghost use Rattle.frame.specs.Of.{places_of, rows_of};
 ghost use Rattle.search.specs.Plain.{memory_verdict, plain_meaning};
 ghost use Rattle.search.specs.Of.{frame_places, frame_rows, ready, meaning_of, focus_of};
 
+use crate::needs::enough;
 use crate::plain::PlainOracle;
 use crate::record::Record;
 use frame::frame::ClosedFrame;
@@ -26,11 +27,7 @@ impl PlainOracle {
         ensures focus { focus_of result ≡ no_place }
     {
         records.truncate(frame.places() as usize);
-        records.fill(Record {
-            distance: None,
-            settled: false,
-            focused: false,
-        });
+        records.fill(Record::default());
         PlainOracle {
             frame,
             records,
@@ -42,24 +39,13 @@ impl PlainOracle {
     pub fn check(&self) -> Result<(), OracleFault>
         ensures { result ≡ memory_verdict (frame_places self.now) (length (frame_rows self.now)) (vec_len self.now.records) (capacity self.now.queue) }
     {
-        let places = self.frame.places();
-        if self.records.len() < places as usize {
-            return Err(OracleFault::Records { needed: places });
-        }
-        let needed = 2 * self.frame.len() + 1;
-        if self.queue.room() < needed {
-            return Err(OracleFault::Entries {
-                needed: needed as u32,
-            });
-        }
-        Ok(())
+        enough(&self.frame, self.records.len(), self.queue.room())
     }
 
     // Whether the memory is enough.
     pub(crate) fn is_ready(&self) -> bool
         ensures { result ≡ ready self.now }
     {
-        self.records.len() >= self.frame.places() as usize
-            && self.queue.room() > 2 * self.frame.len()
+        self.check().is_ok()
     }
 }

@@ -5,67 +5,49 @@ ghost use Rattle.ways.specs.Nearest.{Nearest};
 ghost use Rattle.frame.specs.Fans.{arc_at};
 ghost use Rattle.search.specs.State.{known, lit};
 ghost use Rattle.search.specs.Plain.{alike};
-ghost use Rattle.search.specs.Scan.{Chosen, improved};
+ghost use Rattle.search.specs.Scan.{Chosen};
 
 use crate::record::Record;
 use frame::arc::Arc;
+use ways::lesser::lesser;
 use ways::near::Near;
 
-// Whether a duct of this length to a place at the distance `rest` makes up the distance.
-fn makes_up(rest: Option<u32>, length: u32, distance: u32) -> bool
-    ensures { result ≡ alike (plus (Some length) rest) (Some distance) }
+// Whether an arc begins a way of this length to where the records measure from.
+fn leads_on(records: &[Record], arc: &Arc, distance: u32) -> bool
+    ensures { result ≡ alike (plus (Some arc.now.length) (known records.now arc.now.to)) (Some distance) }
 {
-    match rest {
-        None => false,
-        Some(d) => u64::from(length) + u64::from(d) == u64::from(distance),
-    }
+    let rest = records
+        .get(arc.to as usize)
+        .and_then(|record| record.distance);
+    rest.is_some_and(|rest| u64::from(arc.length) + u64::from(rest) == u64::from(distance))
 }
 
 // The first of the arcs, which go by rising number, that begins a shortest way to where the records measure from.
 pub(crate) fn first_onward(records: &[Record], arcs: &[Arc], distance: u32) -> Option<Arc>
-    requires { (i : ℕ) → i < length arcs.now → (arc_at arcs.now i).to < length records.now }
     ensures { Chosen records.now arcs.now distance result }
 {
-    for arc in arcs {
-        if makes_up(records[arc.to as usize].distance, arc.length, distance) {
-            return Some(*arc);
-        }
-    }
-    None
-}
-
-// The best so far, or this place where it is nearer.
-fn nearer(best: Option<Near>, place: u32, distance: Option<u32>) -> Option<Near>
-    ensures { result ≡ improved best place distance }
-{
-    match (best, distance) {
-        (_, None) => best,
-        (None, Some(distance)) => Some(Near { place, distance }),
-        (Some(near), Some(distance)) => {
-            if distance < near.distance {
-                Some(Near { place, distance })
-            } else {
-                Some(near)
-            }
-        }
-    }
+    arcs.iter()
+        .copied()
+        .find(|arc| leads_on(records, arc, distance))
 }
 
 // The place in focus of the least distance, and the smallest number among equals.
-pub(crate) fn nearest_lit(records: &[Record]) -> Option<Near>
+pub(crate) fn nearest_lit(records: &[Record]) -> Option<Near<u32>>
     requires { length records.now ≤ 4096 }
     ensures { Nearest (length records.now) (lit records.now) (known records.now) result }
 {
     let mut best = None;
     for (i, record) in records.iter().enumerate() {
         if record.focused {
-            best = nearer(best, i as u32, record.distance);
+            let place = i as u32;
+            let here = record.distance.map(|distance| Near { distance, place });
+            best = lesser(best, here);
         }
     }
     best
 }
 
-// Takes every place out of focus.
+// Takes every place out of focus. Labels clear a mark of other records so: a function of both, with a closure for one assignment, is no plainer.
 pub(crate) fn unlight(records: &mut [Record])
     ensures { (v : ℕ) → lit records.new v ≡ false }
 {

@@ -6,6 +6,7 @@ ghost use Rattle.search.specs.Plain.{search_verdict};
 ghost use Rattle.search.specs.Searched.{Searched};
 
 use crate::dijkstra::run;
+use crate::needs::{enough, inside};
 use crate::record::Record;
 use frame::frame::ClosedFrame;
 use heap::queue::Heap;
@@ -25,18 +26,8 @@ pub fn search(
     ensures room { capacity queue.new ≡ capacity queue.old }
 {
     let places = frame.places();
-    if records.len() < places as usize {
-        return Err(OracleFault::Records { needed: places });
-    }
-    let needed = 2 * frame.len() + 1;
-    if queue.room() < needed {
-        return Err(OracleFault::Entries {
-            needed: needed as u32,
-        });
-    }
-    if source >= places {
-        return Err(OracleFault::NoPlace { place: source });
-    }
-    run(frame, &mut records[0..places as usize], queue, source);
+    enough(frame, records.len(), queue.room())?;
+    inside(places, source)?;
+    run(frame, &mut records[..places as usize], queue, source);
     Ok(())
 }
