@@ -5,12 +5,10 @@ ghost use Rattle.job.specs.Day.{Act, groups_by};
 ghost use Rattle.job.specs.Held.{Agrees};
 ghost use Rattle.day.specs.Law.{refusal, Answers, FocusAfter};
 
-use crate::groups::fill;
 use job::fault::JobFault;
 use job::job::Job;
 use oracle::traits::{DistanceOracle, GroupOracle};
 use plan::fault::PlanFault;
-use plan::group::Group;
 use plan::lay::plan;
 use plan::trunk::Trunk;
 use ways::row::Row;
@@ -49,14 +47,5 @@ pub fn plan_job<O: GroupOracle>(
     if places != job.places() {
         return Err(JobFault::OtherPlaces { places });
     }
-    let none = Group {
-        places: [0; 16],
-        count: 0,
-    };
-    let mut groups = [none; 64];
-    fill(fittings, &mut groups);
-    match plan(oracle, &groups[0..count], trunk) {
-        Ok(laid) => Ok(laid),
-        Err(fault) => Err(refusal_of(fault, count as u32)),
-    }
+    plan(oracle, fittings, trunk).map_err(|fault| refusal_of(fault, count as u32))
 }

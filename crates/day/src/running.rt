@@ -26,6 +26,7 @@ fn kept(
 ) -> Result<Result<Laid, JobFault>, AllocError>
     ensures { IfOk result (λ s. (m : Meaning) (n : ℕ) (gs : List (List ℕ)) (old : List Row) → Answers m n gs old trunk.now planned → PlanLaw m n gs (length old) s) }
 {
+    // No `map`: a closure that asks for memory cannot pass its failure on.
     match planned {
         Err(fault) => Ok(Err(fault)),
         Ok(laid) => {

@@ -61,12 +61,7 @@ fn oracle_of(
     for row in rows {
         assert!(rt; frame.add(*row).is_ok());
     }
-    let blank = Record {
-        distance: None,
-        settled: false,
-        focused: false,
-    };
-    let records = Vec::from_elem(heap, blank, places as usize)?;
+    let records = Vec::from_elem(heap, Record::default(), places as usize)?;
     let queue: Heap<SearchEntry> = Heap::new(heap, 2 * rows.len() + 1)?;
     Ok(PlainOracle::new(Rc::new(heap, frame.close())?, records, queue))
 }

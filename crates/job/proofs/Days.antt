@@ -1,22 +1,14 @@
 -- What calls do to a job, and to every day that agrees with it. Assumes nothing.
-use Rattle.std.proofs.Common.{◌≡◌, ℕ, List, [], ◌∷◌, ◌++◌, Some, None, Option, sym, refl, ap, ◌∙◌, ap₂}
+use Rattle.std.proofs.Common.{◌≡◌, ℕ, List, [], ◌∷◌, ◌++◌, Option, sym, refl, ap, ◌∙◌, ap₂}
 use Rattle.job.specs.declared.fault.JobFault.{JobFault}
 use Rattle.job.specs.declared.job.Job.{Job}
-use Rattle.job.specs.Day.{Act, Standing, nothing, verdict, changed, next, after, standing_by, below, groups_by}
-use Rattle.job.specs.Held.{held, groups, Agrees, Did, EveryDay}
+use Rattle.job.specs.Day.{Act, Standing, nothing, verdict, next, after, standing_by, below, groups_by}
+use Rattle.job.specs.Held.{groups, Agrees, Did, EveryDay}
 
 -- some calls and then some more
 pub after_append : (n : ℕ) (on : Standing) (cs ds : List Act) → after n on (cs ++ ds) ≡ after n (after n on cs) ds
 after_append n on [] ds = refl
 after_append n on (c ∷ cs) ds = after_append n (next n on c) cs ds
-
--- a refused call
-pub did_nothing : (job : Job) (c : Act) (e : JobFault) → Some e ≡ verdict job.heading.places (held job) c → Did job c (Some e) job
-did_nothing job c e v = record { answers = v; places = refl; holds = ap (λ (x : Option JobFault). changed x c (held job)) v }
-
--- an accepted one
-pub did_change : (job : Job) (c : Act) (job' : Job) → None ≡ verdict job.heading.places (held job) c → job'.heading.places ≡ job.heading.places → held job' ≡ changed None c (held job) → Did job c None job'
-did_change job c job' v n h = record { answers = v; places = n; holds = h ∙ ap (λ (x : Option JobFault). changed x c (held job)) v }
 
 -- what is true of the job held is true of every day that agrees with it
 pub every_day : (job : Job) (c : Act) (a : Option JobFault) (job' : Job) → Did job c a job' → EveryDay job c a job'

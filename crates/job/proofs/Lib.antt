@@ -1,6 +1,5 @@
 pub mod Bits
 pub mod Days
-pub mod Entries
 pub mod Fits
 pub mod Listings
 pub mod Stood

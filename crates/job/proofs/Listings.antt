@@ -1,18 +1,20 @@
 -- The standing fittings one after the other: how many, and what holds of each. Assumes nothing.
-use Rattle.std.proofs.Common.{◌≡◌, ℕ, zero, suc, ◌+◌, ◌/◌, ◌^◌, ◌<◌, ◌≤◌, Bool, true, false, cond, ◌&&◌, eqb, ◌⊎◌, List, [], ◌∷◌, ◌++◌, length, get_or, IfSome, Some, None, Option, sym, refl, ap, ◌∙◌, subst, inl, inr, div-one, add-one, arith, length-append, shr-shr}
+use Rattle.std.proofs.Common.{◌≡◌, ℕ, zero, suc, ◌+◌, ◌/◌, ◌^◌, ◌<◌, ◌≤◌, Bool, true, false, cond, List, [], ◌∷◌, ◌++◌, length, get_or, IfSome, Some, None, Option, refl, ap, ◌∙◌, div-one, add-one, arith, length-append, shr-shr}
 use native.Mathlib.Nat.{div-eq_of_lt}
 use lib.Count.{ones, ones_step}
 use Rattle.std.specs.Option.{option_to_list}
 use Rattle.std.specs.List.{AllByRecursion}
 use Rattle.std.proofs.ByRecursion.{All-append}
+use Rattle.std.specs.Int.{bit_at}
+use Rattle.std.proofs.lemmas.Grind.{common_steps}
+use Rattle.std.proofs.lemmas.Nat.Bits.{bit_at-lt}
 use Rattle.std.proofs.lemmas.List.{append-nil}
-use Rattle.std.proofs.lemmas.Bool.{lt-ltb}
+use Rattle.ways.specs.Few.{members}
 use Rattle.job.specs.declared.job.Job.{Job}
 use Rattle.job.specs.Day.{Standing, below}
 use Rattle.job.specs.Held.{held, groups}
-use Rattle.job.specs.Marks.{bit, marked, places_of, no_fitting}
+use Rattle.job.specs.Marks.{marked, no_fitting}
 use Rattle.job.specs.Places.{Fitted}
-use Rattle.job.proofs.Bits.{bit_two}
 use Rattle.job.proofs.Fits.{lawful_fitted}
 
 -- the fittings below f + 1
@@ -50,8 +52,8 @@ all_below P (suc k) on h =
 pub held_fitted : (job : Job) (f : ℕ) → IfSome (held job f) (Fitted job.heading.places)
 held_fitted job f = go (marked job.heading.standing f) refl
   where
-    go : (t : Bool) → marked job.heading.standing f ≡ t → IfSome (cond t (Some (places_of (get_or job.fittings f no_fitting))) None) (Fitted job.heading.places)
-    go true e = lawful_fitted job.heading.places (places_of (get_or job.fittings f no_fitting)) (job.sound f e)
+    go : (t : Bool) → marked job.heading.standing f ≡ t → IfSome (cond t (Some (members (get_or job.fittings f no_fitting))) None) (Fitted job.heading.places)
+    go true e = lawful_fitted job.heading.places (members (get_or job.fittings f no_fitting)) (job.sound f e)
     go false e = tt
 
 -- what a job has a plan reach: at most 64 groups of 1 to 16 places below n, strictly rising
@@ -59,26 +61,15 @@ pub groups_fitted : (job : Job) → AllByRecursion (Fitted job.heading.places) (
 groups_fitted job = all_below (Fitted job.heading.places) 64 (held job) (held_fitted job)
 
 -- one mark more
-length_mark : (job : Job) (k : ℕ) → k < 64 → length (option_to_list (held job k)) ≡ bit job.heading.standing k
-length_mark job k h =
-    ap (λ (t : Bool). length (option_to_list (cond (t && eqb (bit w k) 1) (Some ps) None))) (lt-ltb k 64 h) ∙ go (bit w k) (bit_two w k)
-  where
-    w : ℕ
-    w = job.heading.standing
-
-    ps : List ℕ
-    ps = places_of (get_or job.fittings k no_fitting)
-
-    go : (b : ℕ) → (b ≡ 0) ⊎ (b ≡ 1) → length (option_to_list (cond (eqb b 1) (Some ps) None)) ≡ b
-    go b (inl e) = subst (λ (x : ℕ). length (option_to_list (cond (eqb x 1) (Some ps) None)) ≡ x) (sym e) refl
-    go b (inr e) = subst (λ (x : ℕ). length (option_to_list (cond (eqb x 1) (Some ps) None)) ≡ x) (sym e) refl
+length_mark : (job : Job) (k : ℕ) → k < 64 → length (option_to_list (held job k)) ≡ bit_at job.heading.standing k
+length_mark job k h = grind (arith, common_steps, bit_at-lt)
 
 ones_below : (job : Job) (k : ℕ) → k ≤ 64 → ones job.heading.standing ≡ length (below k (held job)) + ones (job.heading.standing / 2 ^ k)
 unfolding below
 ones_below job zero h = omega (arith, ap ones (div-one job.heading.standing))
 ones_below job (suc k) h =
     let w = job.heading.standing in
-    let step : ones (w / 2 ^ k) ≡ bit w k + ones (w / 2 ^ suc k) = ones_step (w / 2 ^ k) ∙ ap (λ (x : ℕ). bit w k + ones x) (shr-shr w k 1 ∙ ap (λ (x : ℕ). w / 2 ^ x) (add-one k)) in
+    let step : ones (w / 2 ^ k) ≡ bit_at w k + ones (w / 2 ^ suc k) = ones_step (w / 2 ^ k) ∙ ap (λ (x : ℕ). bit_at w k + ones x) (shr-shr w k 1 ∙ ap (λ (x : ℕ). w / 2 ^ x) (add-one k)) in
     omega (arith, ones_below job k (omega arith), step, length-append (below k (held job)) (option_to_list (held job k)), length_mark job k (omega arith))
 
 no_ones : (w : ℕ) → w < 2 ^ 64 → ones (w / 2 ^ 64) ≡ 0

@@ -7,10 +7,16 @@ use Rattle.job.specs.Day.{Act, adds, drops, plans, focuses, clears, Standing, no
 use Rattle.job.specs.Laws.{at, Accepted, StandsWith, StandingIs, NoneAbove, AllFitted}
 use Rattle.job.specs.Places.{Fitted}
 use Rattle.job.proofs.Days.{after_append}
-use Rattle.job.proofs.Entries.{put_at, put_beside}
 use Rattle.job.proofs.Fits.{fitted_so}
 use Rattle.job.proofs.Listings.{all_below}
 use Rattle.job.proofs.Verdicts.{add_checks}
+
+-- a change is seen at its fitting alone
+put_at : (on : Standing) (g k : ℕ) (v : Option (List ℕ)) → k ≡ g → put on g v k ≡ v
+put_at on g k v e = grind arith
+
+put_beside : (on : Standing) (g k : ℕ) (v : Option (List ℕ)) → (k ≡ g → ⊥) → put on g v k ≡ on k
+put_beside on g k v ne = grind arith
 
 -- what stands after one call more
 pub one_call : (n : ℕ) (calls : List Act) (m : ℕ) → m < length calls → standing_by n (take (suc m) calls) ≡ next n (standing_by n (take m calls)) (at calls m)
@@ -19,7 +25,7 @@ one_call n calls m h =
 
 -- an accepted add is of a fitting that does not stand
 add_absent : (n : ℕ) (on : Standing) (f : ℕ) (ps qs : List ℕ) → verdict n on (adds f ps) ≡ None → on f ≡ Some qs → ⊥
-add_absent n on f ps qs v e = let absent = (add_checks n on f ps v).3 in let z : ◌≡◌ {A = ℕ} 0 1 = cc in omega arith
+add_absent n on f ps qs v e = let absent = (add_checks n on f ps v).3 in cc
 
 -- what stands still stands after a call that is no accepted drop of it
 longer : (n : ℕ) (calls : List Act) (m f : ℕ) (ps : List ℕ) → StandsWith n calls m f ps → (at calls m ≡ drops f → Accepted n calls m → ⊥) → StandsWith n calls (suc m) f ps
@@ -37,7 +43,7 @@ longer n calls m f ps s no_drop = record {
 
 -- what stands after one call more stood before, or came by it
 there : (n : ℕ) (calls : List Act) (m f : ℕ) (ps : List ℕ) → (standing_by n (take m calls) f ≡ Some ps → StandsWith n calls m f ps) → (c : Act) (v : Option JobFault) → at calls m ≡ c → verdict n (standing_by n (take m calls)) (at calls m) ≡ v → changed v c (standing_by n (take m calls)) f ≡ Some ps → StandsWith n calls (suc m) f ps
-there n calls m f ps before c (Some e) is so h = longer n calls m f ps (before h) (λ d a. let q : ◌≡◌ {A = ℕ} 0 1 = cc in omega arith)
+there n calls m f ps before c (Some e) is so h = longer n calls m f ps (before h) (λ d a. cc)
 there n calls m f ps before (adds g qs) None is so h = go (cases_eq f g)
   where
     go : (f ≡ g) ⊎ (f ≡ g → ⊥) → StandsWith n calls (suc m) f ps
@@ -45,17 +51,17 @@ there n calls m f ps before (adds g qs) None is so h = go (cases_eq f g)
         let x : Some qs ≡ Some ps = sym (put_at (standing_by n (take m calls)) g g (Some qs) refl) ∙ subst (λ (k : ℕ). put (standing_by n (take m calls)) g (Some qs) k ≡ Some ps) e h in
         let y : qs ≡ ps = cc in
         record { since = m; within = omega arith; added = is ∙ cc; accepted = so; undropped = λ j a b d v. omega arith }
-    go (inr ne) = longer n calls m f ps (before (sym (put_beside (standing_by n (take m calls)) g f (Some qs) ne) ∙ h)) (λ d a. let q : ◌≡◌ {A = ℕ} 0 1 = cc in omega arith)
+    go (inr ne) = longer n calls m f ps (before (sym (put_beside (standing_by n (take m calls)) g f (Some qs) ne) ∙ h)) (λ d a. cc)
 there n calls m f ps before (drops g) None is so h = go (cases_eq f g)
   where
     go : (f ≡ g) ⊎ (f ≡ g → ⊥) → StandsWith n calls (suc m) f ps
     go (inl e) =
         let x : None ≡ Some ps = sym (put_at (standing_by n (take m calls)) g g None refl) ∙ subst (λ (k : ℕ). put (standing_by n (take m calls)) g None k ≡ Some ps) e h in
-        let q : ◌≡◌ {A = ℕ} 0 1 = cc in absurd (let z : ⊥ = omega arith in z)
+        absurd cc
     go (inr ne) = longer n calls m f ps (before (sym (put_beside (standing_by n (take m calls)) g f None ne) ∙ h)) (λ d a. ne (let y : g ≡ f = cc in sym y))
-there n calls m f ps before plans None is so h = longer n calls m f ps (before h) (λ d a. let q : ◌≡◌ {A = ℕ} 0 1 = cc in omega arith)
-there n calls m f ps before (focuses p) None is so h = longer n calls m f ps (before h) (λ d a. let q : ◌≡◌ {A = ℕ} 0 1 = cc in omega arith)
-there n calls m f ps before clears None is so h = longer n calls m f ps (before h) (λ d a. let q : ◌≡◌ {A = ℕ} 0 1 = cc in omega arith)
+there n calls m f ps before plans None is so h = longer n calls m f ps (before h) (λ d a. cc)
+there n calls m f ps before (focuses p) None is so h = longer n calls m f ps (before h) (λ d a. cc)
+there n calls m f ps before clears None is so h = longer n calls m f ps (before h) (λ d a. cc)
 
 -- what came before the last call stood before it
 shorter : (n : ℕ) (calls : List Act) (m f : ℕ) (ps : List ℕ) (s : StandsWith n calls (suc m) f ps) → s.since < m → StandsWith n calls m f ps
@@ -71,7 +77,7 @@ kept n calls m f ps undropped h (focuses p) None is so = h
 kept n calls m f ps undropped h clears None is so = h
 
 pub standing_is : StandingIs
-standing_is n calls zero f ps h = (λ e. let q : ◌≡◌ {A = ℕ} 0 1 = cc in absurd (let z : ⊥ = omega arith in z), λ s. absurd (let z : ⊥ = omega (arith, s.within) in z))
+standing_is n calls zero f ps h = (λ e. absurd cc, λ s. absurd (omega (arith, s.within)))
 standing_is n calls (suc m) f ps h = forth_back (standing_is n calls m f ps (omega arith))
   where
     lt : m < length calls
@@ -117,7 +123,7 @@ always n Q off stands on [] h f = h f
 always n Q off stands on (c ∷ cs) h f = always n Q off stands (next n on c) cs (always_next n Q off stands on c h) f
 
 pub none_above : NoneAbove
-none_above n calls f = always n (λ k o. 64 ≤ k → o ≡ None) (λ k h. refl) (λ k ps lt fits h. absurd (let y : ⊥ = omega arith in y)) nothing calls (λ k h. refl) f
+none_above n calls f = always n (λ k o. 64 ≤ k → o ≡ None) (λ k h. refl) (λ k ps lt fits h. absurd (omega arith)) nothing calls (λ k h. refl) f
 
 pub all_fitted : AllFitted
 all_fitted n calls = all_below (Fitted n) 64 (standing_by n calls) (always n (λ k o. IfSome o (Fitted n)) (λ k. tt) (λ k ps lt fits. fits) nothing calls (λ k. tt))

@@ -1,9 +1,10 @@
 -- What stands after a list of calls, from the calls alone. Assumes nothing.
 use Rattle.std.specs.Prelude.{ℕ, zero, suc, Bool, true, false, cond, not, List, [], ◌∷◌, ◌++◌, is_some, Some, None, Option, ◌==◌, nat_lt}
 use Rattle.std.specs.Option.{option_to_list}
+use Rattle.ways.specs.Places.{outside}
 use Rattle.job.specs.declared.fault.JobFault.{JobFault}
 use Rattle.job.specs.declared.fault.JobFault.TheVariants.{Number, Places, NoPlace, Stands, Absent}
-use Rattle.job.specs.Places.{formed, outside}
+use Rattle.job.specs.Places.{formed}
 
 -- a call of a day: a fitting and its places are added, a fitting is dropped, a plan, a place comes into focus, the focus is emptied
 pub data Act : Type 0 where

@@ -1,13 +1,14 @@
 -- What a job holds, and when that is what the calls say. Assumes nothing.
 use Rattle.std.specs.Prelude.{◌≡◌, ℕ, cond, List, [], ◌∷◌, ◌++◌, Some, None, Ok, Err, Option, Result, slice_index_or}
+use Rattle.ways.specs.Few.{members}
 use Rattle.job.specs.declared.fault.JobFault.{JobFault}
 use Rattle.job.specs.declared.job.Job.{Job}
 use Rattle.job.specs.Day.{Act, Standing, standing_by, below, verdict, next}
-use Rattle.job.specs.Marks.{marked, places_of, no_fitting}
+use Rattle.job.specs.Marks.{marked, no_fitting}
 
 -- which places a job has each fitting stand with
 abbrev pub held : Job → Standing
-held job f = cond (marked job.heading.standing f) (Some (places_of (slice_index_or job.fittings f no_fitting))) None
+held job f = cond (marked job.heading.standing f) (Some (members (slice_index_or job.fittings f no_fitting))) None
 
 -- what a plan has to reach: the places of each standing fitting, in rising order of the fittings' numbers
 abbrev pub groups : Job → List (List ℕ)

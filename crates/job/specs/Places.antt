@@ -1,6 +1,6 @@
 -- The places that a fitting may have. Assumes nothing.
-use Rattle.std.specs.Prelude.{ℕ, ◌<◌, ◌≤◌, Bool, true, false, cond, not, ◌&&◌, List, [], ◌∷◌, length, is_some, Some, None, Option, nat_le, nat_lt}
-use Rattle.ways.specs.Places.{AllBelow}
+use Rattle.std.specs.Prelude.{ℕ, ◌<◌, ◌≤◌, Bool, true, false, not, ◌&&◌, List, [], ◌∷◌, length, is_some, nat_le, nat_lt}
+use Rattle.ways.specs.Places.{AllBelow, outside}
 
 -- each place is above the one before, the first above p
 abbrev pub Rises : ℕ → List ℕ → Type 0
@@ -28,11 +28,6 @@ rises p (q ∷ qs) = nat_lt p q && rises q qs
 abbrev pub formed : List ℕ → Bool
 formed [] = false
 formed (p ∷ ps) = nat_le (length ps) 15 && rises p ps
-
--- the first place that is not below n
-abbrev pub outside : ℕ → List ℕ → Option ℕ
-outside n [] = None
-outside n (p ∷ ps) = cond (nat_lt p n) (outside n ps) (Some p)
 
 -- whether there are 1 to 16 places below n, strictly rising
 abbrev pub lawful : ℕ → List ℕ → Bool

@@ -1,5 +1,6 @@
 // How a job begins, and how fittings are added and dropped.
-ghost use Rattle.std.specs.Prelude.{◌≡◌, ◌<◌, true, false, [], Some, None};
+ghost use Rattle.std.specs.Prelude.{◌≡◌, ◌<◌, true, false, [], Some, None, IfOk};
+ghost use Rattle.ways.specs.Few.{members};
 ghost use Rattle.job.specs.Day.{adds, drops, verdict, put};
 ghost use Rattle.job.specs.Held.{held, Agrees, Did, EveryDay, fault_of, Left};
 ghost use Rattle.job.specs.Marks.{marked};
@@ -8,9 +9,11 @@ ghost use Rattle.job.specs.Places.{lawful};
 use crate::fault::JobFault;
 use crate::fitting::{Fitting, Heading};
 use crate::job::Job;
-use crate::marks::{has, turned};
-use crate::places::{first_outside, gathered, well_formed};
+use crate::marks::turned;
+use crate::places::fitting_of;
 use oracle::traits::DistanceOracle;
+use ways::few::Few;
+use ways::places::first_outside;
 
 impl Job {
     // A job over the oracle's places, at which no fitting stands.
@@ -24,16 +27,12 @@ impl Job {
     pub(crate) fn empty(places: u32) -> Job
         ensures { Agrees places [] result }
     {
-        let none = Fitting {
-            used: 0,
-            places: [0; 16],
-        };
         Job {
             heading: Heading {
                 places,
                 standing: 0,
             },
-            fittings: [none; 64],
+            fittings: [Few::new(0); 64],
         }
     }
 
@@ -41,8 +40,10 @@ impl Job {
     pub fn begin(&mut self, places: u32)
         ensures { Agrees places [] self.new }
     {
-        self.heading.standing = 0;
-        self.heading.places = places;
+        self.heading = Heading {
+            places,
+            standing: 0,
+        };
     }
 
     // The fitting stands with these places; or a refusal, which changes nothing.
@@ -51,13 +52,9 @@ impl Job {
         ensures left { Left result self.old self.new }
         ensures day { EveryDay self.old (adds fitting places.now) (fault_of result) self.new }
     {
-        match self.add_fault(fitting, places) {
-            Some(fault) => Err(fault),
-            None => {
-                self.enter(fitting, places);
-                Ok(())
-            }
-        }
+        let entry = self.check_add(fitting, places)?;
+        self.enter(fitting, entry);
+        Ok(())
     }
 
     // The fitting stands no more; or a refusal, which changes nothing.
@@ -66,56 +63,51 @@ impl Job {
         ensures left { Left result self.old self.new }
         ensures day { EveryDay self.old (drops fitting) (fault_of result) self.new }
     {
-        match self.drop_fault(fitting) {
-            Some(fault) => Err(fault),
-            None => {
-                self.leave(fitting);
-                Ok(())
-            }
-        }
+        self.check_drop(fitting)?;
+        self.leave(fitting);
+        Ok(())
     }
 
-    // Why an add is refused, by the first check that fails.
-    fn add_fault(&self, fitting: u32, places: &[u32]) -> Option<JobFault>
-        ensures { result ≡ verdict self.now.heading.places (held self.now) (adds fitting places.now) }
+    // The fitting that an add stores; or a refusal by the first check that fails.
+    fn check_add(&self, fitting: u32, places: &[u32]) -> Result<Fitting, JobFault>
+        ensures checked { fault_of result ≡ verdict self.now.heading.places (held self.now) (adds fitting places.now) }
+        ensures entry { IfOk result (λ x. members x ≡ places.now) }
     {
         if fitting > 63 {
-            return Some(JobFault::Number);
+            return Err(JobFault::Number);
         }
-        if !well_formed(places) {
-            return Some(JobFault::Places { fitting });
-        }
+        let entry = fitting_of(places).ok_or(JobFault::Places { fitting })?;
         if let Some(place) = first_outside(self.heading.places, places) {
-            return Some(JobFault::NoPlace { place });
+            return Err(JobFault::NoPlace { place });
         }
-        if has(self.heading.standing, fitting) {
-            return Some(JobFault::Stands { fitting });
+        if self.stands(fitting) {
+            return Err(JobFault::Stands { fitting });
         }
-        None
+        Ok(entry)
     }
 
-    // Why a drop is refused, by the first check that fails.
-    fn drop_fault(&self, fitting: u32) -> Option<JobFault>
-        ensures { result ≡ verdict self.now.heading.places (held self.now) (drops fitting) }
+    // Refuses a drop by the first check that fails.
+    fn check_drop(&self, fitting: u32) -> Result<(), JobFault>
+        ensures { fault_of result ≡ verdict self.now.heading.places (held self.now) (drops fitting) }
     {
         if fitting > 63 {
-            return Some(JobFault::Number);
+            return Err(JobFault::Number);
         }
-        if !has(self.heading.standing, fitting) {
-            return Some(JobFault::Absent { fitting });
+        if !self.stands(fitting) {
+            return Err(JobFault::Absent { fitting });
         }
-        None
+        Ok(())
     }
 
-    // Stores the places of a fitting that does not stand, and marks it.
-    fn enter(&mut self, fitting: u32, places: &[u32])
+    // Stores a fitting that does not stand, and marks it.
+    fn enter(&mut self, fitting: u32, entry: Fitting)
         requires number { fitting < 64 }
         requires free { marked self.old.heading.standing fitting ≡ false }
-        requires lawful { lawful self.old.heading.places places.now ≡ true }
+        requires lawful { lawful self.old.heading.places (members entry) ≡ true }
         ensures places { self.new.heading.places ≡ self.old.heading.places }
-        ensures holds { held self.new ≡ put (held self.old) fitting (Some places.now) }
+        ensures holds { held self.new ≡ put (held self.old) fitting (Some (members entry)) }
     {
-        self.fittings[fitting as usize] = gathered(places);
+        self.fittings[fitting as usize] = entry;
         self.heading.standing = turned(self.heading.standing, fitting);
     }
 

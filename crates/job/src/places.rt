@@ -1,57 +1,27 @@
 // What is asked of a fitting's places.
-ghost use Rattle.std.specs.Prelude.{◌≡◌, ◌≤◌, length};
-ghost use Rattle.job.specs.Marks.{places_of};
-ghost use Rattle.job.specs.Places.{formed, rises, outside};
+ghost use Rattle.std.specs.Prelude.{◌≡◌, true, false, MatchOption, nat_lt};
+ghost use Rattle.std.specs.List.{IsAllAdjacentAnswer};
+ghost use Rattle.ways.specs.Few.{members};
+ghost use Rattle.job.specs.Places.{formed};
 
 use crate::fitting::Fitting;
 
-// Whether each place is above the one before, the first of them above `start`.
-fn rising_from(start: u32, rest: &[u32]) -> bool
-    ensures { result ≡ rises start rest.now }
+// Whether each place is above the one before.
+fn rises(places: &[u32]) -> bool
+    ensures { IsAllAdjacentAnswer (λ p q b. b ≡ nat_lt p q) places.now result }
 {
-    let mut last = start;
-    for p in rest {
-        if last >= *p {
-            return false;
-        }
-        last = *p;
-    }
-    true
+    places.is_sorted_by(
+        |p, q|
+            ensures { result ≡ nat_lt p.now q.now }
+        { p < q },
+    )
 }
 
-// Whether there are 1 to 16 places, strictly rising.
-pub(crate) fn well_formed(places: &[u32]) -> bool
-    ensures { result ≡ formed places.now }
+// The fitting of these places, if there are 1 to 16, strictly rising.
+#[tactic(auto, using(crate::proofs::Fits::formed_if, crate::proofs::Fits::formed_long, crate::proofs::Fits::few_members))]
+pub(crate) fn fitting_of(places: &[u32]) -> Option<Fitting>
+    ensures { MatchOption result (formed places.now ≡ false) (λ x. (formed places.now ≡ true) × (members x ≡ places.now)) }
 {
-    match places {
-        [] => false,
-        [start, rest @ ..] => rest.len() <= 15 && rising_from(*start, rest),
-    }
-}
-
-// The first place that is not below `limit`.
-pub(crate) fn first_outside(limit: u32, places: &[u32]) -> Option<u32>
-    ensures { result ≡ outside limit places.now }
-{
-    for p in places {
-        if *p >= limit {
-            return Some(*p);
-        }
-    }
-    None
-}
-
-// The fitting of these places.
-pub(crate) fn gathered(places: &[u32]) -> Fitting
-    requires { length places.now ≤ 16 }
-    ensures { places_of result ≡ places.now }
-{
-    let mut all = [0; 16];
-    for (i, p) in places.iter().enumerate() {
-        all[i] = *p;
-    }
-    Fitting {
-        used: places.len() as u8,
-        places: all,
-    }
+    let fitting = Fitting::try_from(places).ok()?;
+    (!places.is_empty() && rises(places)).then_some(fitting)
 }

@@ -3,22 +3,10 @@ ghost use Rattle.std.specs.Prelude.{◌≡◌, ℕ, List, length, is_some, IfSom
 ghost use Rattle.std.specs.Option.{option_map};
 ghost use Rattle.job.specs.Day.{Act, groups_by, standing_by};
 ghost use Rattle.job.specs.Held.{held, groups, Agrees};
-ghost use Rattle.job.specs.Marks.{places_of};
 ghost use Rattle.job.specs.Places.{Fitted};
 
-use crate::fitting::Fitting;
 use crate::job::Job;
 use crate::marks::has;
-
-impl Fitting {
-    // The fitting's places.
-    pub fn places(&self) -> &[u32]
-        ensures { result.now ≡ places_of self.now }
-    {
-        let used = (self.used as usize).min(16);
-        &self.places[0..used]
-    }
-}
 
 impl Job {
     // How many places there are.
@@ -29,13 +17,13 @@ impl Job {
     }
 
     // How many fittings stand.
+    #[tactic(auto, using(crate::proofs::Listings::ones_count, crate::proofs::Days::groups_agree))]
     pub fn count(&self) -> u32
         ensures marks { result ≡ count_ones self.now.heading.standing }
         ensures value { result ≡ length (groups self.now) }
         ensures day { (n : ℕ) (calls : List Act) → Agrees n calls self.now → result ≡ length (groups_by n calls) }
     {
-        let word = self.heading.standing;
-        word.count_ones()
+        self.heading.standing.count_ones()
     }
 
     // Whether the fitting stands.
@@ -52,10 +40,7 @@ impl Job {
         ensures day { (n : ℕ) (calls : List Act) → Agrees n calls self.now → option_map (λ x. x.now) result ≡ standing_by n calls fitting }
         ensures fitted { IfSome (option_map (λ x. x.now) result) (Fitted self.now.heading.places) }
     {
-        if has(self.heading.standing, fitting) {
-            Some(self.fittings[fitting as usize].places())
-        } else {
-            None
-        }
+        let entry = self.fittings.get(fitting as usize)?;
+        self.stands(fitting).then_some(entry.as_slice())
     }
 }

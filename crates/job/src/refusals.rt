@@ -16,14 +16,14 @@ impl Refusal for JobFault {
     fn number(&self) -> u32 {
         match self {
             JobFault::Number => 13,
-            JobFault::Places { fitting: _ } => 16,
-            JobFault::NoPlace { place: _ } => 15,
-            JobFault::Stands { fitting: _ } => 32,
-            JobFault::Absent { fitting: _ } => 33,
+            JobFault::Places { .. } => 16,
+            JobFault::NoPlace { .. } => 15,
+            JobFault::Stands { .. } => 32,
+            JobFault::Absent { .. } => 33,
             JobFault::NoneStanding => 34,
-            JobFault::OtherPlaces { places: _ } => 35,
-            JobFault::Trunk { needed: _ } => 31,
-            JobFault::NoSet { fittings: _ } => 38,
+            JobFault::OtherPlaces { .. } => 35,
+            JobFault::Trunk { .. } => 31,
+            JobFault::NoSet { .. } => 38,
         }
     }
 
@@ -32,16 +32,17 @@ impl Refusal for JobFault {
     }
 
     fn spot(&self) -> u64 {
-        match self {
+        let spot = match self {
             JobFault::Number => 1,
-            JobFault::Places { fitting } => u64::from(*fitting),
-            JobFault::NoPlace { place } => u64::from(*place),
-            JobFault::Stands { fitting } => u64::from(*fitting),
-            JobFault::Absent { fitting } => u64::from(*fitting),
             JobFault::NoneStanding => 0,
-            JobFault::OtherPlaces { places } => u64::from(*places),
-            JobFault::Trunk { needed } => u64::from(*needed),
-            JobFault::NoSet { fittings } => u64::from(*fittings),
-        }
+            JobFault::NoPlace { place } => *place,
+            JobFault::Places { fitting }
+            | JobFault::Stands { fitting }
+            | JobFault::Absent { fitting } => *fitting,
+            JobFault::OtherPlaces { places } => *places,
+            JobFault::Trunk { needed } => *needed,
+            JobFault::NoSet { fittings } => *fittings,
+        };
+        u64::from(spot)
     }
 }

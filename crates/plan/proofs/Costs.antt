@@ -1,20 +1,15 @@
 -- The cost of a place, group by group. Assumes nothing.
-use Rattle.std.proofs.Common.{◌≡◌, ℕ, zero, suc, ◌+◌, ◌<◌, List, [], ◌∷◌, ◌++◌, length, get_or, take, Some, None, Option, sym, refl, ap, ◌∙◌, subst, arith}
-use Rattle.std.proofs.lemmas.List.{take_more}
-use Rattle.ways.specs.declared.near.Near.{Near}
-use Rattle.ways.specs.Nearest.{Nearest}
+use Rattle.std.proofs.Common.{◌≡◌, ℕ, ◌+◌, ◌<◌, List, [], ◌∷◌, ◌++◌, length, get_or, take, drop, Some, None, Option, sym, refl, ap, ◌∙◌, subst, arith}
+use Rattle.std.proofs.lemmas.List.{take_more, at_drop_more, map-append}
+use Rattle.ways.specs.declared.few.Few.{Few}
+use Rattle.ways.specs.Few.{members}
+use Rattle.ways.specs.Nearest.{Near, Nearest}
 use Rattle.ways.specs.Options.{plus}
 use Rattle.ways.specs.Places.{AllBelow}
 use Rattle.oracle.specs.Meaning.{Meaning, far}
 use Rattle.trees.specs.Groups.{gap, cost, focus_on, GroupsBelow}
 use Rattle.trees.proofs.Groups.{nearest_gap}
-use Rattle.plan.specs.declared.group.Group.{Group}
-use Rattle.plan.specs.Groups.{members, lists}
-
-inside_at : (n : ℕ) (gs : List Group) (i : ℕ) (d : Group) → GroupsBelow n (lists gs) → i < length gs → AllBelow n (members (get_or gs i d))
-inside_at n [] i d f l = absurd (omega arith)
-inside_at n (g ∷ gs) zero d f l = f.0
-inside_at n (g ∷ gs) (suc i) d f l = inside_at n gs i d f.1 (omega arith)
+use Rattle.plan.specs.Groups.{lists}
 
 plus_turn : (p q r : Option ℕ) → plus p (plus q r) ≡ plus (plus p q) r
 plus_turn None q r = refl
@@ -22,56 +17,44 @@ plus_turn (Some a) None r = refl
 plus_turn (Some a) (Some b) None = refl
 plus_turn (Some a) (Some b) (Some c) = ap Some (omega arith)
 
-plus_zero : (p : Option ℕ) → plus p (Some 0) ≡ plus (Some 0) p
-plus_zero None = refl
-plus_zero (Some a) = ap Some (omega arith)
+plus_some : (p q : Option ℕ) (w : ℕ) → plus p q ≡ Some w → (v : ℕ) × (q ≡ Some v)
+plus_some None q w e = absurd (let z : ◌≡◌ {A = ℕ} 0 1 = cc in omega arith)
+plus_some (Some a) None w e = absurd (let z : ◌≡◌ {A = ℕ} 0 1 = cc in omega arith)
+plus_some (Some a) (Some b) w e = (b, refl)
 
-plus_none : (p : Option ℕ) → plus p None ≡ None
-plus_none None = refl
-plus_none (Some a) = refl
+-- the group at the index i has the places ps, which are below n
+pub record Item (n : ℕ) (gs : List (Few ℕ 16)) (i : ℕ) (ps : List ℕ) : Type 0 where
+  pub left : lists (drop i gs) ≡ ps ∷ lists (drop (i + 1) gs)
+  pub taken : lists (take (i + 1) gs) ≡ lists (take i gs) ++ (ps ∷ [])
+  pub inside : AllBelow n ps
 
-cost_push : (to : ℕ → ℕ → Option ℕ) (v : ℕ) (gs : List (List ℕ)) (g : List ℕ) → cost to v (gs ++ (g ∷ [])) ≡ plus (cost to v gs) (gap to v g)
-cost_push to v [] g = plus_zero (gap to v g)
-cost_push to v (x ∷ gs) g = ap (plus (gap to v x)) (cost_push to v gs g) ∙ plus_turn (gap to v x) (cost to v gs) (gap to v g)
+pub item_of : {n : ℕ} (gs : List (Few ℕ 16)) (i : ℕ) {group : Few ℕ 16} {ps : List ℕ} → GroupsBelow n (lists (drop i gs)) → group ≡ get_or gs i group → ps ≡ members group → i < length gs → Item n gs i ps
+item_of {n = n} gs i {group = group} {ps = ps} b is whose l = record {
+  left = left;
+  taken = ap lists (take_more gs i group l) ∙ map-append members (take i gs) (get_or gs i group ∷ []) ∙ ap (λ (y : List ℕ). lists (take i gs) ++ (y ∷ [])) here;
+  inside = (subst (GroupsBelow n) left b).0;
+}
+  where
+    here : members (get_or gs i group) ≡ ps
+    here = ap members (sym is) ∙ sym whose
 
-pub lists_push : (gs : List Group) (g : Group) → lists (gs ++ (g ∷ [])) ≡ lists gs ++ (members g ∷ [])
-lists_push [] g = refl
-lists_push (x ∷ gs) g = ap (λ (r : List (List ℕ)). members x ∷ r) (lists_push gs g)
+    left : lists (drop i gs) ≡ ps ∷ lists (drop (i + 1) gs)
+    left = at_drop_more lists gs i group l ∙ ap (λ (y : List ℕ). y ∷ lists (drop (i + 1) gs)) here
 
-cost_none : (to : ℕ → ℕ → Option ℕ) (v : ℕ) (gs : List Group) (i : ℕ) (d : Group) → i < length gs → gap to v (members (get_or gs i d)) ≡ None → cost to v (lists gs) ≡ None
-cost_none to v [] i d l e = absurd (omega arith)
-cost_none to v (g ∷ gs) zero d l e = ap (λ (p : Option ℕ). plus p (cost to v (lists gs))) e
-cost_none to v (g ∷ gs) (suc i) d l e = ap (plus (gap to v (members g))) (cost_none to v gs i d (omega arith) e) ∙ plus_none (gap to v (members g))
+module _ (m : Meaning) (v : ℕ) {gs : List (Few ℕ 16)} {i : ℕ} {ps : List ℕ} (t : Item m.count gs i ps) where
+  splits : cost (far m) v (lists (drop i gs)) ≡ plus (gap (far m) v ps) (cost (far m) v (lists (drop (i + 1) gs)))
+  splits = ap (cost (far m) v) t.left
 
--- the group at the index i has the places ps, and m' is still the meaning m
-pub record Item (m m' : Meaning) (v : ℕ) (gs : List Group) (i : ℕ) (ps : List ℕ) : Type 0 where
-  pub group : Group
-  pub same : m' ≡ m
-  pub inside : GroupsBelow m.count (lists gs)
-  pub is : group ≡ get_or gs i group
-  pub whose : ps ≡ members group
-  pub within : i < length gs
+  -- its distance is added
+  pub item_more : (sum d : ℕ) (p : Near) → Nearest m.count (focus_on ps) (far m v) (Some p) → d ≡ p.distance → plus (Some (sum + d)) (cost (far m) v (lists (drop (i + 1) gs))) ≡ plus (Some sum) (cost (far m) v (lists (drop i gs)))
+  item_more sum d p n e =
+      let k : gap (far m) v ps ≡ Some d = nearest_gap m.count ps (far m) v (Some p) t.inside n ∙ ap Some (sym e) in
+      sym (ap (plus (Some sum)) splits ∙ plus_turn (Some sum) (gap (far m) v ps) (cost (far m) v (lists (drop (i + 1) gs))) ∙ ap (λ (q : Option ℕ). plus (plus (Some sum) q) (cost (far m) v (lists (drop (i + 1) gs)))) k)
 
-module _ {m m' : Meaning} {v : ℕ} {gs : List Group} {i : ℕ} {ps : List ℕ} (t : Item m m' v gs i ps) where
-  is_here : ps ≡ members (get_or gs i t.group)
-  is_here = t.whose ∙ ap members t.is
+  -- no way leads to it
+  pub item_lost : Nearest m.count (focus_on ps) (far m v) None → cost (far m) v (lists (drop i gs)) ≡ None
+  item_lost n = splits ∙ ap (λ (q : Option ℕ). plus q (cost (far m) v (lists (drop (i + 1) gs)))) (nearest_gap m.count ps (far m) v None t.inside n)
 
-  below : AllBelow m.count ps
-  below = subst (AllBelow m.count) (sym is_here) (inside_at m.count gs i t.group t.inside t.within)
-
-  pub item_inside : AllBelow m'.count ps
-  item_inside = subst (λ (y : Meaning). AllBelow y.count ps) (sym t.same) below
-
-  pub item_near : (r : Option Near) → Nearest m'.count (focus_on ps) (far m' v) r → Nearest m.count (focus_on ps) (far m v) r
-  item_near r n = subst (λ (y : Meaning). Nearest y.count (focus_on ps) (far y v) r) t.same n
-
-  pub lists_more : lists (take (i + 1) gs) ≡ lists (take i gs) ++ (ps ∷ [])
-  lists_more = ap lists (take_more gs i t.group t.within) ∙ lists_push (take i gs) (get_or gs i t.group) ∙ ap (λ (y : List ℕ). lists (take i gs) ++ (y ∷ [])) (sym is_here)
-
-  pub item_more : (sum : ℕ) (p : Near) → Some sum ≡ cost (far m) v (lists (take i gs)) → Nearest m'.count (focus_on ps) (far m' v) (Some p) → Some (sum + p.distance) ≡ cost (far m) v (lists (take (i + 1) gs))
-  item_more sum p s n =
-      let k : gap (far m) v ps ≡ Some p.distance = nearest_gap m.count ps (far m) v (Some p) below (item_near (Some p) n) in
-      sym (ap (cost (far m) v) lists_more ∙ cost_push (far m) v (lists (take i gs)) ps ∙ ap (λ (q : Option ℕ). plus q (gap (far m) v ps)) (sym s) ∙ ap (plus (Some sum)) k)
-
-  pub item_lost : Nearest m'.count (focus_on ps) (far m' v) None → cost (far m) v (lists gs) ≡ None
-  item_lost n = cost_none (far m) v gs i t.group t.within (ap (gap (far m) v) (sym is_here) ∙ nearest_gap m.count ps (far m) v None below (item_near None n))
+  -- the groups after it have a cost too
+  pub item_rest : (w : ℕ) → cost (far m) v (lists (drop i gs)) ≡ Some w → (u : ℕ) × (cost (far m) v (lists (drop (i + 1) gs)) ≡ Some u)
+  item_rest w e = plus_some (gap (far m) v ps) (cost (far m) v (lists (drop (i + 1) gs))) w (sym splits ∙ e)

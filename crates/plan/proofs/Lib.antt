@@ -1,6 +1,7 @@
 pub mod Follow
 pub mod Near
 pub mod Meets
+pub mod Orders
 pub mod Nexts
 pub mod Rows
 pub mod Trunks

@@ -1,5 +1,6 @@
 -- One trunk more, and growth from every chosen place. Assumes nothing.
-use Rattle.std.proofs.Common.{◌≡◌, ℕ, ◌+◌, ◌<◌, ◌≤◌, Bool, true, false, ltb, List, length, get_or, Some, sym, refl, subst, arith, below_more, ltb-false, ltb-true}
+use Rattle.std.proofs.Common.{◌≡◌, ℕ, suc, ◌+◌, ◌-◌, ◌<◌, ◌≤◌, Bool, true, false, ltb, List, [], ◌∷◌, length, get_or, take, drop, Some, sym, refl, ap, ◌∙◌, subst, arith, below_more, ltb-false, ltb-true}
+use Rattle.std.proofs.lemmas.List.{take_all}
 use Rattle.ways.specs.declared.row.Row.{Row}
 use Rattle.ways.specs.Options.{pick}
 use Rattle.ways.specs.Places.{On}
@@ -15,22 +16,6 @@ tells_own : (t : Trunk) (x : ℕ) (ds : List Row) → Tells t x ds → Tells t t
 tells_own t x ds l = record { start = refl; ducts = l.ducts; weighs = l.weighs }
 
 module _ (m : Meaning) (cs : List ℕ) where
-  pub light_first : (t : Trunk) → TellsGrown m (get_or cs 0 0) cs t → TellsLightest m cs 1 t
-  light_first t l = (
-    l.0,
-    record {
-      at = 0;
-      before = omega arith;
-      starts = l.2.start;
-      grown = subst (λ (y : ℕ). Grown m y cs l.0) (sym l.2.start) l.1;
-      least = λ j lt. (l.0, subst (λ (y : ℕ). Grown m (get_or cs y 0) cs l.0) (zero_is j lt) l.1, omega arith, λ b. absurd (omega arith));
-    },
-    tells_own t (get_or cs 0 0) l.0 l.2,
-  )
-    where
-      zero_is : (j : ℕ) → j < 1 → 0 ≡ j
-      zero_is j lt = omega arith
-
   module _ (i : ℕ) (t u : Trunk) (w : TellsLightest m cs i t) (l : TellsGrown m (get_or cs i 0) cs u) where
     abbrev RowOf : List Row → ℕ → ℕ → Type 0
     RowOf ds at j = (es : List Row) × Grown m (get_or cs j 0) cs es × (weight ds ≤ weight es) × (j < at → weight ds < weight es)
@@ -63,6 +48,14 @@ module _ (m : Meaning) (cs : List ℕ) where
               },
               w.2,
             )
+
+-- the places behind the first
+pub behind : (cs : List ℕ) (i : ℕ) → i < length (take (length cs - 1) (drop 1 cs)) → (get_or (take (length cs - 1) (drop 1 cs)) i 0 ≡ get_or cs (i + 1) 0) × (i + 1 < length cs)
+behind [] i l = absurd (omega arith)
+behind (x ∷ xs) i l =
+    let all : take (length (x ∷ xs) - 1) xs ≡ xs = take_all (length (x ∷ xs) - 1) xs (omega arith) in
+    let next : suc i ≡ i + 1 = omega arith in
+    (ap (λ (ys : List ℕ). get_or ys i 0) all ∙ ap (λ (k : ℕ). get_or (x ∷ xs) k 0) next, omega (arith, l, ap length all))
 
 -- what is reached from one chosen place is reached from each
 pub reached_from : (m : Meaning) (x c : ℕ) (cs : List ℕ) → Sound m → x < m.count → Reached m x cs → On c cs → Reached m c cs

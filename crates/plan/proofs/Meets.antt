@@ -1,6 +1,6 @@
 -- Where a walk meets the trunk. Assumes nothing.
 use Rattle.std.proofs.Common.{◌≡◌, Some, ap, ◌∙◌, arith}
-use Rattle.ways.specs.declared.near.Near.{Near}
+use Rattle.ways.specs.Nearest.{Near}
 use Rattle.ways.proofs.Metric.{far_zero}
 use Rattle.plan.specs.Laws.{WalkMeets}
 use Rattle.plan.proofs.Follow.{Part, along_part}

@@ -1,7 +1,7 @@
 -- What is nearest of the places in focus. Assumes nothing.
-use Rattle.std.proofs.Common.{◌≡◌, ℕ, ◌<◌, ◌≤◌, Bool, true, false, eqb, List, Some, None, Option, sym, refl, ap, ◌∙◌, subst, arith, eqb-true}
+use Rattle.std.proofs.Common.{◌≡◌, ℕ, ◌<◌, ◌≤◌, Bool, true, false, eqb, List, Some, None, Option, MatchOption, sym, refl, ap, ◌∙◌, subst, arith, eqb-true}
 use borrow.Author.Tests.{eqb-false}
-use Rattle.ways.specs.declared.near.Near.{Near}
+use Rattle.ways.specs.Nearest.{Near}
 use Rattle.ways.specs.Distance.{IsDistance}
 use Rattle.ways.specs.Nearest.{Later, Nearest}
 use Rattle.ways.specs.Way.{Hop, Leads, total}
@@ -43,8 +43,13 @@ module _ (m : Meaning) (s : Sound m) (f : ℕ → Bool) (v : ℕ) (iv : v < m.co
           let l : Later p v (Some 0) = subst (Later p v) self (k.3 v iv on) in
           eqb-false p.distance 0 e (omega (arith, l.0))))
 
-  pub focus_none : Nearest m.count f (far m v) None → false ≡ f v
+  focus_none : Nearest m.count f (far m v) None → false ≡ f v
   focus_none k = sym (not_true (f v) (λ on. not_both (k v iv on) self))
+
+  -- whether the nearest is at the distance 0
+  pub focus_asked : (r : Option Near) (b : Bool) → Nearest m.count f (far m v) r → MatchOption r (b ≡ false) (λ p. b ≡ eqb p.distance 0) → b ≡ f v
+  focus_asked None b k e = e ∙ focus_none k
+  focus_asked (Some p) b k e = e ∙ focus_near p k
 
   -- no way to a place in focus is shorter than the distance of the nearest
   pub nearest_least : (q : Near) (p : ℕ) → p < m.count → Nearest m.count f (far m v) (Some q) → f p ≡ true → (ks : List Hop) → Leads m.ducts v ks p → q.distance ≤ total ks

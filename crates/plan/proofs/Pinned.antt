@@ -2,18 +2,16 @@
 use Rattle.std.proofs.Common.{◌≡◌, ℕ, ◌<◌, List, [], ◌∷◌, length, get_or, Some, None, Ok, Err, Option, sym, refl, ap, ◌∙◌, subst, arith}
 use native.Mathlib.Decide.{ℕ_discrete}
 use Rattle.ways.specs.declared.row.Row.{Row}
-use Rattle.ways.specs.Nearest.{Later}
+use Rattle.ways.specs.Nearest.{Near, Later}
 use Rattle.oracle.specs.Meaning.{Meaning, far}
 use Rattle.trees.specs.Connected.{weight}
 use Rattle.trees.specs.Growth.{net}
 use Rattle.trees.specs.Groups.{focus_on}
 use Rattle.plan.specs.declared.fault.PlanFault.TheVariants.{Count, NoPlace, Rows, NoSet}
-use Rattle.plan.specs.declared.start.Start.{Start}
 use Rattle.plan.specs.Choices.{Begins, Gathered, Chosen}
 use Rattle.plan.specs.Kept.{Lightest}
 use Rattle.plan.specs.Laws.{TrunkUnique, StepsUnique, LaidExactly}
 use Rattle.plan.specs.Trunks.{Grown}
-use Rattle.plan.proofs.Chosens.{as_near}
 use Rattle.plan.proofs.Near.{nearest_unique}
 use Rattle.plan.proofs.Unique.{grows_unique}
 
@@ -21,11 +19,11 @@ pub trunk_unique : TrunkUnique
 trunk_unique m x cs ds es g h = grows_unique m x cs [] ds es g h
 
 -- one place to begin at
-begins_unique : (m : Meaning) (first : List ℕ) (others : List (List ℕ)) (p q : Start) → Begins m first others (Some p) → Begins m first others (Some q) → p.place ≡ q.place
+begins_unique : (m : Meaning) (first : List ℕ) (others : List (List ℕ)) (p q : Near) → Begins m first others (Some p) → Begins m first others (Some q) → p.place ≡ q.place
 begins_unique m first others p q k l =
-    let a : Later (as_near p) q.place (Some q.cost) = subst (Later (as_near p) q.place) l.1 (k.2 q.place l.0) in
-    let b : Later (as_near q) p.place (Some p.cost) = subst (Later (as_near q) p.place) k.1 (l.2 p.place k.0) in
-    let e : p.cost ≡ q.cost = omega (arith, a.0, b.0) in
+    let a : Later p q.place (Some q.distance) = subst (Later p q.place) l.1 (k.2 q.place l.0) in
+    let b : Later q p.place (Some p.distance) = subst (Later q p.place) k.1 (l.2 p.place k.0) in
+    let e : p.distance ≡ q.distance = omega (arith, a.0, b.0) in
     omega (arith, a.1 e, b.1 (sym e))
 
 -- one nearest place of each group

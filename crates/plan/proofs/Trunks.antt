@@ -1,6 +1,6 @@
 -- A trunk that grows is a tree, and weighs no more than the distances of the chosen places from its start. Assumes nothing.
 use Rattle.std.proofs.Common.{◌≡◌, ℕ, ◌+◌, ◌<◌, ◌≤◌, Bool, true, false, List, [], ◌∷◌, ◌++◌, Some, Option, unwrap_or, sym, refl, ap, ◌∙◌, subst, inl, inr, arith}
-use Rattle.ways.specs.declared.near.Near.{Near}
+use Rattle.ways.specs.Nearest.{Near}
 use Rattle.ways.specs.declared.row.Row.{Row}
 use Rattle.ways.specs.Nearest.{Later}
 use Rattle.ways.specs.Options.{pick}

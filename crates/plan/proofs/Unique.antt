@@ -1,6 +1,6 @@
 -- One trunk grows from a place. Assumes nothing.
 use Rattle.std.proofs.Common.{◌≡◌, ℕ, Bool, List, [], ◌∷◌, ◌++◌, sym, refl, ap, ◌∙◌, subst, inl, inr, arith}
-use Rattle.ways.specs.declared.near.Near.{Near}
+use Rattle.ways.specs.Nearest.{Near}
 use Rattle.ways.specs.declared.row.Row.{Row}
 use Rattle.ways.specs.Way.{Hop}
 use Rattle.oracle.specs.Meaning.{Meaning, far}

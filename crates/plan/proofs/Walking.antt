@@ -1,5 +1,6 @@
 -- A walk on its way to the trunk. Assumes nothing.
-use Rattle.std.proofs.Common.{◌≡◌, ℕ, ◌+◌, ◌<◌, ◌≤◌, Bool, true, false, ◌⊎◌, List, [], ◌∷◌, ◌++◌, length, set, Option, unwrap_or, sym, refl, ap, ◌∙◌, subst, inl, inr, arith, length-append, ne_eqb}
+use Rattle.std.proofs.Common.{◌≡◌, ℕ, ◌+◌, ◌<◌, ◌≤◌, Bool, true, false, ◌⊎◌, List, [], ◌∷◌, ◌++◌, length, set, Some, None, Option, unwrap_or, sym, refl, ap, ◌∙◌, subst, inl, inr, arith, length-append, ne_eqb}
+use Rattle.std.proofs.lemmas.Option.{same_Some}
 use Rattle.ways.specs.declared.row.Row.{Row}
 use Rattle.ways.specs.Nearest.{with_place}
 use Rattle.ways.specs.Options.{pick}
@@ -8,8 +9,11 @@ use Rattle.ways.specs.Way.{Hop}
 use Rattle.ways.proofs.Metric.{same}
 use Rattle.ways.proofs.Simple.{fit}
 use Rattle.oracle.specs.declared.step.Step.TheVariants.{Here, Next}
+use Rattle.oracle.specs.declared.walk.Leg.{Leg}
 use Rattle.oracle.specs.Answers.{step_of, step_for}
+use Rattle.oracle.specs.Asked.{LegFrom}
 use Rattle.oracle.specs.Meaning.{Meaning, far, Sound}
+use Rattle.oracle.specs.Walked.{leg_of}
 use Rattle.trees.specs.Growth.{walked, laid}
 use Rattle.trees.specs.Groups.{with_places}
 use Rattle.trees.proofs.Focus.{places_on, places_all, places_push}
@@ -31,8 +35,10 @@ pub record Begun (m : Meaning) (f : ℕ → Bool) (b : Branch) : Type 0 where
   pub off : f b.from ≡ false
   pub near : NearTrunk m f b.from (record { place = b.to; distance = b.distance })
 
--- the walk of the branch has come to the place at, and none of its places before was on the trunk f; its ducts are written from the index k on
+-- the walk of the branch has come to the place at, and none of its places before was on the trunk f; its ducts are written from the index k on, which a tree's ducts do not reach
 pub record Passing (m : Meaning) (f : ℕ → Bool) (b : Branch) (rows : List Row) (k : ℕ) (m' : Meaning) (f' : ℕ → Bool) (rows' : List Row) (k' : ℕ) (at : ℕ) : Type 0 where
+  pub begun : Begun m f b
+  pub room : k + 1 ≤ m.count
   pub hops : List Hop
   pub along : Along m.rule b.to b.from hops at
   pub first : (p : ℕ) → On p (walked b.from hops) → f p ≡ false
@@ -41,8 +47,18 @@ pub record Passing (m : Meaning) (f : ℕ → Bool) (b : Branch) (rows : List Ro
   pub rows_are : rows' ≡ written k (laid b.from hops) rows
   pub count : k' ≡ k + length (laid b.from hops)
 
-pub at_first : (m : Meaning) (f : ℕ → Bool) (b : Branch) (rows : List Row) (k : ℕ) → Passing m f b rows k m f rows k b.from
-at_first m f b rows k = record { hops = []; along = refl; first = λ p o. absurd o; meaning = refl; focus = refl; rows_are = refl; count = omega arith }
+-- the code has made the hop to which the leg leads from the place at towards goal: its place and its duct have joined in, and whether its end is in focus was seen
+pub record Hopped (m m' : Meaning) (f f' : ℕ → Bool) (rows rows' : List Row) (k at goal : ℕ) (leg : Leg) (seen : Bool) : Type 0 where
+  pub answer : Option Leg
+  pub asked : LegFrom m at goal answer
+  pub is : answer ≡ Some leg
+  pub meaning : m' ≡ m
+  pub focus : f' ≡ with_place at f
+  pub rows_are : rows' ≡ set rows k (record { first = at; second = leg.place; length = leg.length })
+  pub looked : f' leg.place ≡ seen
+
+pub at_first : (m : Meaning) (f : ℕ → Bool) (b : Branch) (rows : List Row) (k : ℕ) → Begun m f b → k + 1 ≤ m.count → Passing m f b rows k m f rows k b.from
+at_first m f b rows k w r = record { begun = w; room = r; hops = []; along = refl; first = λ p o. absurd o; meaning = refl; focus = refl; rows_are = refl; count = omega arith }
 
 along_end : (rule : ℕ → ℕ → Hop) (goal t at : ℕ) (hs : List Hop) → Along rule goal t hs at → end t hs ≡ at
 along_end rule goal t at [] a = a
@@ -52,7 +68,10 @@ all_below : (n : ℕ) (ps : List ℕ) → ((p : ℕ) → On p ps → p < n) → 
 all_below n [] f = tt
 all_below n (p ∷ ps) f = (f p (inl refl), all_below n ps (λ q o. f q (inr o)))
 
-module _ {m : Meaning} {f : ℕ → Bool} {b : Branch} {rows : List Row} {k : ℕ} {m' : Meaning} {f' : ℕ → Bool} {rows' : List Row} {k' at : ℕ} (w : Begun m f b) (p : Passing m f b rows k m' f' rows' k' at) where
+module _ {m : Meaning} {f : ℕ → Bool} {b : Branch} {rows : List Row} {k : ℕ} {m' : Meaning} {f' : ℕ → Bool} {rows' : List Row} {k' at : ℕ} (p : Passing m f b rows k m' f' rows' k' at) where
+  abbrev w : Begun m f b
+  w = p.begun
+
   part : Part m w.sound b.from b.to b.distance p.hops at
   part = along_part m w.sound b.to b.from b.distance at p.hops w.near.0 w.within w.near.2 p.along
 
@@ -62,11 +81,11 @@ module _ {m : Meaning} {f : ℕ → Bool} {b : Branch} {rows : List Row} {k : �
   pub to_within : b.to < m'.count
   to_within = subst (λ (y : Meaning). b.to < y.count) (sym p.meaning) w.near.0
 
-  -- a walk has fewer ducts than there are places
-  pub few_hops : k' ≤ k + 4096
+  -- a walk has fewer ducts than there are places, and so has the trunk
+  pub few_hops : k' < 8192
   few_hops =
       let inside : AllBelow m.count (walked b.from p.hops) = all_below m.count (walked b.from p.hops) (λ q o. (walked_far m w.sound b.to b.from b.distance at p.hops w.near.0 w.within w.near.2 p.along part.2.0 part.2.1 q o).0) in
-      omega (arith, p.count, length_laid b.from p.hops, fit m.count (walked b.from p.hops) (walked_apart m w.sound b.to b.from b.distance at p.hops w.near.0 w.within w.near.2 p.along) inside, w.sound.few)
+      omega (arith, p.room, p.count, length_laid b.from p.hops, fit m.count (walked b.from p.hops) (walked_apart m w.sound b.to b.from b.distance at p.hops w.near.0 w.within w.near.2 p.along) inside, w.sound.few)
 
   -- on the trunk with the walk is what is on the trunk
   pub met_trunk : f' at ≡ true → f at ≡ true
@@ -94,57 +113,71 @@ module _ {m : Meaning} {f : ℕ → Bool} {b : Branch} {rows : List Row} {k : �
     onward : Onward m at b.to part.2.0 (m.rule at b.to)
     onward = rule_step m w.sound at b.to part.2.0 part.1 w.near.0 not_there part.2.1
 
-    abbrev OnWay : Meaning → Type 0
-    OnWay y = step_of y at b.to ≡ Next (y.rule at b.to).to (y.rule at b.to).length
-
-    pub on_way : OnWay m'
+    on_way : step_of m' at b.to ≡ Next (m'.rule at b.to).to (m'.rule at b.to).length
     on_way =
-        subst OnWay (sym p.meaning)
+        subst (λ (y : Meaning). step_of y at b.to ≡ Next (y.rule at b.to).to (y.rule at b.to).length) (sym p.meaning)
         (ap (λ (t : Bool). pick t Here (step_for (far m at b.to) (m.rule at b.to))) (ne_eqb at b.to not_there) ∙ ap (λ (o : Option ℕ). step_for o (m.rule at b.to)) part.2.1)
 
-    -- one hop more
-    module _ {place length' : ℕ} (ep : place ≡ (m'.rule at b.to).to) (el : length' ≡ (m'.rule at b.to).length) where
+    told : {l : Option Leg} → LegFrom m' at b.to l → l ≡ Some (record { place = (m'.rule at b.to).to; length = (m'.rule at b.to).length })
+    told q = q.0 at_within to_within ∙ ap leg_of on_way
+
+    -- there is a leg
+    pub some_leg : {l : Option Leg} → LegFrom m' at b.to l → l ≡ None → ⊥
+    some_leg q e = let a = sym (told q) ∙ e in let z : ◌≡◌ {A = ℕ} 0 1 = cc in omega arith
+
+    module _ {l : Option Leg} {leg : Leg} (asked : LegFrom m' at b.to l) (is : l ≡ Some leg) where
+      by_step : leg ≡ record { place = (m'.rule at b.to).to; length = (m'.rule at b.to).length }
+      by_step = same_Some leg (record { place = (m'.rule at b.to).to; length = (m'.rule at b.to).length }) (sym is ∙ told asked)
+
       abbrev hop : Hop
-      hop = record { to = place; length = length' }
+      hop = record { to = leg.place; length = leg.length }
 
       by_rule : hop ≡ m.rule at b.to
       by_rule =
-          let r : m'.rule at b.to ≡ m.rule at b.to = ap (λ (y : Meaning). y.rule at b.to) p.meaning in
-          let a : place ≡ (m.rule at b.to).to = ep ∙ ap (λ (h : Hop). h.to) r in
-          let c : length' ≡ (m.rule at b.to).length = el ∙ ap (λ (h : Hop). h.length) r in
-          λ i. record { to = a i; length = c i }
+          let a = ap (λ (q : Leg). q.place) by_step in
+          let c = ap (λ (q : Leg). q.length) by_step in
+          let here : hop ≡ m'.rule at b.to = λ i. record { to = a i; length = c i } in
+          here ∙ ap (λ (y : Meaning). y.rule at b.to) p.meaning
 
       went : Onward m at b.to part.2.0 hop
       went = subst (Onward m at b.to part.2.0) (sym by_rule) onward
 
-      pub place_within : place < m.count
-      place_within = went.1
+      pub place_within : leg.place < m'.count
+      place_within = subst (λ (y : Meaning). leg.place < y.count) (sym p.meaning) went.1
 
-      pub nearer : {m'' : Meaning} → m'' ≡ m' → unwrap_or (far m'' place b.to) 0 < unwrap_or (far m' at b.to) 0
-      nearer {m'' = m''} e =
-          let x : unwrap_or (far m'' place b.to) 0 ≡ went.3.0 = ap (λ (y : Meaning). unwrap_or (far y place b.to) 0) (e ∙ p.meaning) ∙ ap (λ (o : Option ℕ). unwrap_or o 0) went.3.1 in
+    -- one hop more
+    module _ {m'' : Meaning} {f'' : ℕ → Bool} {rows'' : List Row} {leg : Leg} {seen : Bool} (h : Hopped m' m'' f' f'' rows' rows'' k' at b.to leg seen) where
+      abbrev made : Hop
+      made = record { to = leg.place; length = leg.length }
+
+      pub nearer : unwrap_or (far m'' leg.place b.to) 0 < unwrap_or (far m' at b.to) 0
+      nearer =
+          let n : Onward m at b.to part.2.0 made = went h.asked h.is in
+          let x : unwrap_or (far m'' leg.place b.to) 0 ≡ n.3.0 = ap (λ (y : Meaning). unwrap_or (far y leg.place b.to) 0) (h.meaning ∙ p.meaning) ∙ ap (λ (o : Option ℕ). unwrap_or o 0) n.3.1 in
           let y : unwrap_or (far m' at b.to) 0 ≡ part.2.0 = ap (λ (y : Meaning). unwrap_or (far y at b.to) 0) p.meaning ∙ ap (λ (o : Option ℕ). unwrap_or o 0) part.2.1 in
-          omega (arith, x, y, went.2, went.3.2)
+          omega (arith, x, y, n.2, n.3.2)
 
-      pub passes_on : {m'' : Meaning} {f'' : ℕ → Bool} {rows'' : List Row} {k'' : ℕ} → m'' ≡ m' → f'' ≡ with_place at f' → rows'' ≡ set rows' k' (record { first = at; second = place; length = length' }) → k'' ≡ k' + 1 → Passing m f b rows k m'' f'' rows'' k'' place
-      passes_on em ef er ek = record {
-        hops = p.hops ++ (hop ∷ []);
-        along = along_append m.rule b.to b.from at place p.hops (hop ∷ []) p.along (not_there, by_rule, refl);
+      pub passes_on : Passing m f b rows k m'' f'' rows'' (k' + 1) leg.place
+      passes_on = record {
+        begun = w;
+        room = p.room;
+        hops = p.hops ++ (made ∷ []);
+        along = along_append m.rule b.to b.from at leg.place p.hops (made ∷ []) p.along (not_there, by_rule h.asked h.is, refl);
         first = subst (λ (ps : List ℕ). (q : ℕ) → On q ps → f q ≡ false) (sym walked_more) (each_more (λ q. f q ≡ false) (walked b.from p.hops) at p.first off);
-        meaning = em ∙ p.meaning;
-        focus = ef ∙ ap (with_place at) p.focus ∙ sym (places_push (walked b.from p.hops) at f) ∙ ap (λ (r : List ℕ). with_places r f) (sym walked_more);
-        rows_are = er ∙ ap (λ (y : List Row). set y k' row) p.rows_are ∙ sym (written_push k k' (laid b.from p.hops) rows row p.count) ∙ ap (λ (y : List Row). written k y rows) (sym laid_more);
-        count = omega (arith, ek, p.count, ap length laid_more, length-append (laid b.from p.hops) (row ∷ []));
+        meaning = h.meaning ∙ p.meaning;
+        focus = h.focus ∙ ap (with_place at) p.focus ∙ sym (places_push (walked b.from p.hops) at f) ∙ ap (λ (r : List ℕ). with_places r f) (sym walked_more);
+        rows_are = h.rows_are ∙ ap (λ (y : List Row). set y k' row) p.rows_are ∙ sym (written_push k k' (laid b.from p.hops) rows row p.count) ∙ ap (λ (y : List Row). written k y rows) (sym laid_more);
+        count = omega (arith, p.count, ap length laid_more, length-append (laid b.from p.hops) (row ∷ []));
       }
         where
           row : Row
-          row = record { first = at; second = place; length = length' }
+          row = record { first = at; second = leg.place; length = leg.length }
 
           ended : end b.from p.hops ≡ at
           ended = along_end m.rule b.to b.from at p.hops p.along
 
-          laid_more : laid b.from (p.hops ++ (hop ∷ [])) ≡ laid b.from p.hops ++ (row ∷ [])
-          laid_more = laid_push b.from p.hops hop ∙ ap (λ (y : ℕ). laid b.from p.hops ++ (record { first = y; second = place; length = length' } ∷ [])) ended
+          laid_more : laid b.from (p.hops ++ (made ∷ [])) ≡ laid b.from p.hops ++ (row ∷ [])
+          laid_more = laid_push b.from p.hops made ∙ ap (λ (y : ℕ). laid b.from p.hops ++ (record { first = y; second = leg.place; length = leg.length } ∷ [])) ended
 
-          walked_more : walked b.from (p.hops ++ (hop ∷ [])) ≡ walked b.from p.hops ++ (at ∷ [])
-          walked_more = walked_push b.from p.hops hop ∙ ap (λ (y : ℕ). walked b.from p.hops ++ (y ∷ [])) ended
+          walked_more : walked b.from (p.hops ++ (made ∷ [])) ≡ walked b.from p.hops ++ (at ∷ [])
+          walked_more = walked_push b.from p.hops made ∙ ap (λ (y : ℕ). walked b.from p.hops ++ (y ∷ [])) ended

@@ -1,32 +1,18 @@
 -- The place to begin at, and the chosen places. Assumes nothing.
 use Rattle.std.specs.Prelude.{◌≡◌, ℕ, List, [], ◌∷◌, Some, None, Option}
-use Rattle.ways.specs.Nearest.{Later, Nearest}
-use Rattle.ways.specs.Options.{pick}
+use Rattle.ways.specs.Nearest.{Near, Later, Nearest}
 use Rattle.ways.specs.Places.{On}
 use Rattle.oracle.specs.Meaning.{Meaning, far}
 use Rattle.trees.specs.Groups.{cost, focus_on}
-use Rattle.plan.specs.declared.start.Start.{Start}
-use Rattle.plan.specs.Orders.{before}
 
--- a place that has a cost, with it
-abbrev pub start_of : ℕ → Option ℕ → Option Start
-start_of v None = None
-start_of v (Some w) = Some (record { place = v; cost = w })
-
--- the start of the lesser cost, or of the smaller number
-abbrev pub cheaper_of : Option Start → Option Start → Option Start
-cheaper_of None q = q
-cheaper_of (Some p) None = Some p
-cheaper_of (Some p) (Some q) = pick (before p.place p.cost q.place q.cost) (Some p) (Some q)
-
--- of the places of the list, the one of the least cost, the smallest number among equals; none where none has a cost
-abbrev pub Least : List ℕ → (ℕ → Option ℕ) → Option Start → Type 0
+-- of the places of the list, the one of the least cost, told as its distance, the smallest number among equals; none where none has a cost
+abbrev pub Least : List ℕ → (ℕ → Option ℕ) → Option Near → Type 0
 Least vs costs None = (v : ℕ) → On v vs → costs v ≡ None
-Least vs costs (Some p) = On p.place vs × (costs p.place ≡ Some p.cost) × ((v : ℕ) → On v vs → Later (record { place = p.place; distance = p.cost }) v (costs v))
+Least vs costs (Some p) = On p.place vs × (costs p.place ≡ Some p.distance) × ((v : ℕ) → On v vs → Later p v (costs v))
 
 -- the place of the first group whose distances to the nearest places of the others are together the least, the smallest number among equals;
 -- a place with an absent one is passed over
-abbrev pub Begins : Meaning → List ℕ → List (List ℕ) → Option Start → Type 0
+abbrev pub Begins : Meaning → List ℕ → List (List ℕ) → Option Near → Type 0
 Begins m first others = Least first (λ v. cost (far m) v others)
 
 -- the place of each group that is nearest to x, in the order of the groups
@@ -41,6 +27,6 @@ Around m x others cs = (ps : List ℕ) × (cs ≡ x ∷ ps) × Gathered m x othe
 
 -- the chosen places: the one to begin at, and of each other group the one nearest to it
 pub record Chosen (m : Meaning) (first : List ℕ) (others : List (List ℕ)) (cs : List ℕ) : Type 0 where
-  pub start : Start
+  pub start : Near
   pub least : Begins m first others (Some start)
   pub around : Around m start.place others cs

@@ -1,4 +1,3 @@
-pub mod Orders
 pub mod Rows
 pub mod Walks
 pub mod Trunks

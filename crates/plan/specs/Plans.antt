@@ -1,8 +1,8 @@
 -- What a plan answers, and what it leaves. Assumes nothing.
-use Rattle.std.specs.Prelude.{◌≡◌, ℕ, ◌-◌, ◌*◌, ◌<◌, ◌≤◌, Bool, List, [], ◌∷◌, ◌++◌, length, drop, Some, None, Ok, Err, Option, Result, nat_lt}
+use Rattle.std.specs.Prelude.{◌≡◌, ℕ, ◌-◌, ◌*◌, ◌<◌, ◌≤◌, Bool, List, [], ◌∷◌, ◌++◌, length, drop, Some, None, Ok, Err, Option, Result}
 use Rattle.ways.specs.declared.row.Row.{Row}
 use Rattle.ways.specs.Nearest.{no_place}
-use Rattle.ways.specs.Options.{pick}
+use Rattle.ways.specs.Places.{outside}
 use Rattle.oracle.specs.Meaning.{Meaning}
 use Rattle.trees.specs.Connected.{weight, Net, Connected, Tree, TouchesAll}
 use Rattle.trees.specs.Growth.{net}
@@ -38,12 +38,7 @@ abbrev pub or_else : Option ℕ → Option ℕ → Option ℕ
 or_else None q = q
 or_else (Some p) q = Some p
 
--- the first place of the list that is not below n
-abbrev pub outside : ℕ → List ℕ → Option ℕ
-outside n [] = None
-outside n (p ∷ ps) = pick (nat_lt p n) (outside n ps) (Some p)
-
--- the first such place of the groups
+-- the first place of the groups that is not below n
 abbrev pub outside_groups : ℕ → List (List ℕ) → Option ℕ
 outside_groups n [] = None
 outside_groups n (g ∷ gs) = or_else (outside n g) (outside_groups n gs)

@@ -1,6 +1,6 @@
 -- How a trunk grows from a place over chosen places. Assumes nothing.
 use Rattle.std.specs.Prelude.{◌≡◌, ℕ, ◌<◌, ◌≤◌, Bool, true, false, List, [], ◌++◌, length, Some, None, Option}
-use Rattle.ways.specs.declared.near.Near.{Near}
+use Rattle.ways.specs.Nearest.{Near}
 use Rattle.ways.specs.declared.row.Row.{Row}
 use Rattle.ways.specs.Nearest.{Nearest}
 use Rattle.ways.specs.Places.{On}

@@ -1,31 +1,21 @@
 // Whether a plan can be made of a call.
 ghost use Rattle.std.specs.Prelude.{◌≡◌, ◌<◌, MatchResult};
 ghost use Rattle.plan.specs.Groups.{lists};
-ghost use Rattle.plan.specs.Plans.{outside, outside_groups, Admitted, Refused};
+ghost use Rattle.plan.specs.Plans.{outside_groups, Admitted, Refused};
 
 use crate::fault::PlanFault;
 use crate::group::Group;
-use crate::reach::members_of;
-
-// The first of the places that is not below n.
-fn outside_of(places: &[u32], n: u32) -> Option<u32>
-    ensures { result ≡ outside n places.now }
-{
-    for p in places {
-        if *p >= n {
-            return Some(*p);
-        }
-    }
-    None
-}
+use ways::places::first_outside;
 
 // The first place of the groups that is not below n.
+// As a `find_map` it has no proof: what the run of its calls ensures does not give the groups' definition.
 fn outside_all(groups: &[Group], n: u32) -> Option<u32>
     ensures { result ≡ outside_groups n (lists groups.now) }
 {
-    for g in groups {
-        if let Some(p) = outside_of(members_of(g), n) {
-            return Some(p);
+    for group in groups {
+        let place = first_outside(n, group.as_slice());
+        if place.is_some() {
+            return place;
         }
     }
     None
@@ -35,7 +25,7 @@ fn outside_all(groups: &[Group], n: u32) -> Option<u32>
 pub(crate) fn admit(n: u32, groups: &[Group], room: usize) -> Result<(), PlanFault>
     ensures { MatchResult result (λ _. Admitted n (lists groups.now) room) (λ e. Refused n (lists groups.now) room e) }
 {
-    if groups.len() == 0 || groups.len() > 64 {
+    if groups.is_empty() || groups.len() > 64 {
         return Err(PlanFault::Count {
             groups: groups.len(),
         });

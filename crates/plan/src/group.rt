@@ -1,9 +1,4 @@
 // A group of at most 16 places, of which one is to be reached.
-ghost use Rattle.std.specs.Prelude.{◌≤◌};
+use ways::few::Few;
 
-#[derive(Clone, Copy)]
-pub struct Group {
-    pub places: [u32; 16],
-    pub count: usize,
-    ghost few: { count ≤ 16 },
-}
+pub type Group = Few<u32, 16>;

@@ -2,14 +2,17 @@
 ghost use Rattle.std.specs.Prelude.{◌≡◌, ◌+◌, ◌<◌, slice_set};
 ghost use Rattle.plan.specs.Trunks.{Reached, Laid};
 
-use crate::ask::{Leg, bring, in_focus, onward};
+use crate::ask::{bring, in_focus};
 use crate::branch::Branch;
 use crate::next::next_branch;
 use crate::trunk::Trunk;
+use oracle::ask::leg_from;
 use oracle::traits::{DistanceOracle, GroupOracle};
+use oracle::walk::Leg;
 use ways::row::Row;
 
 // Writes a duct at an index of the memory, where the memory reaches so far.
+// After a write through `get_mut` of a slice no proof knows its elements, so the index is compared here.
 fn put(rows: &mut [Row], i: u32, row: Row)
     ensures { rows.new ≡ slice_set rows.old i row }
 {
@@ -42,7 +45,9 @@ pub(crate) fn grow<O: GroupOracle>(o: &mut O, start: u32, chosen: &[u32], rows: 
     while let Some(branch) = next_branch(o, chosen) {
         let mut at = branch.from;
         let meet = loop {
-            let Leg { place, length } = onward(o, at, branch.to);
+            let Some(Leg { place, length }) = leg_from(o, at, branch.to) else {
+                unreachable()
+            };
             put(
                 rows,
                 ducts,

@@ -1,6 +1,5 @@
 // A plan: the lightest trunk over groups, laid into the caller's memory.
-ghost use Rattle.std.specs.Prelude.{◌≡◌, ◌+◌, ◌-◌, ◌≤◌, ◌∷◌, length, MatchOption};
-ghost use Rattle.ways.specs.Nearest.{no_place};
+ghost use Rattle.std.specs.Prelude.{◌≡◌, ◌-◌, ◌<◌, ◌≤◌, ◌∷◌, length, MatchOption};
 ghost use Rattle.ways.specs.Places.{AllBelow};
 ghost use Rattle.trees.specs.Connected.{Net};
 ghost use Rattle.trees.specs.Groups.{GroupsBelow};
@@ -13,37 +12,29 @@ use crate::fault::PlanFault;
 use crate::group::Group;
 use crate::grow::grow;
 use crate::light::lightest;
-use crate::reach::members_of;
 use crate::trunk::Trunk;
 use oracle::traits::{DistanceOracle, GroupOracle};
 use ways::row::Row;
 
-// Chooses the places, and lays the lightest of the trunks that grow from them; none where no connected set touches every group. Leaves the focus empty.
+// Chooses the places, and lays the lightest of the trunks that grow from them; none where no connected set touches every group.
 fn lay<O: GroupOracle>(
     o: &mut O,
     first: &[u32],
     others: &[Group],
-    chosen: &mut [u32],
     rows: &mut [Row],
 ) -> Option<Trunk>
     requires within { AllBelow (O.DistanceOracle.meaning o.old).count first.now }
     requires inside { GroupsBelow (O.DistanceOracle.meaning o.old).count (lists others.now) }
-    requires few { length others.now ≤ 64 }
-    requires room { length chosen.old ≡ length others.now + 1 }
+    requires few { length others.now < 64 }
     requires roomy { (O.DistanceOracle.meaning o.old).count - 1 ≤ length rows.old }
     ensures value { MatchOption result (((c : Net) → Joining (O.DistanceOracle.meaning o.old) (first.now ∷ lists others.now) c → ⊥) × (rows.new ≡ rows.old)) (λ t. Planned (O.DistanceOracle.meaning o.old) (first.now ∷ lists others.now) rows.old rows.new t) }
-    ensures focus { O.GroupOracle.focused o.new ≡ no_place }
     ensures same { O.DistanceOracle.meaning o.new ≡ O.DistanceOracle.meaning o.old }
 {
-    let Some(start) = least_start(o, first, others) else {
-        o.clear();
-        return None;
-    };
-    gather(o, start.place, others, chosen);
+    let start = least_start(o, first, others)?;
+    let gathered = gather(o, start.place, others);
+    let chosen = gathered.as_slice();
     let best = lightest(o, chosen);
-    let trunk = grow(o, best.start, chosen, rows);
-    o.clear();
-    Some(trunk)
+    Some(grow(o, best.start, chosen, rows))
 }
 
 // Plans a trunk over the groups, in their order: lays its ducts at the beginning of the rows, whose rest stays, and tells its start, number of ducts and weight.
@@ -59,13 +50,9 @@ pub fn plan<O: GroupOracle>(
     ensures same { O.DistanceOracle.meaning o.new ≡ O.DistanceOracle.meaning o.old }
 {
     admit(o.places(), groups, rows.len())?;
-    let mut places = [0u32; 64];
-    let first = members_of(&groups[0]);
-    let others = &groups[1..groups.len()];
-    match lay(o, first, others, &mut places[0..groups.len()], rows) {
-        Some(trunk) => Ok(trunk),
-        None => Err(PlanFault::NoSet {
-            groups: groups.len(),
-        }),
-    }
+    let trunk = lay(o, groups[0].as_slice(), &groups[1..], rows);
+    o.clear();
+    trunk.ok_or(PlanFault::NoSet {
+        groups: groups.len(),
+    })
 }

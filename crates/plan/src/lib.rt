@@ -1,4 +1,5 @@
 // Trunks over groups of places, laid over any group oracle.
+// The clause `same` stands at each function that moves the focus: an oracle's `kept` would say that the focus stays too.
 #![tactic(auto)]
 
 mod admit;
@@ -13,5 +14,4 @@ pub mod lay;
 mod light;
 mod next;
 mod reach;
-mod start;
 pub mod trunk;

@@ -10,6 +10,7 @@ use oracle::traits::{DistanceOracle, GroupOracle};
 use ways::row::Row;
 
 // The lighter of two trunks, the first among equals.
+// It compares by weight alone, which is no order of all that a trunk tells; pairs made for `lesser` are no plainer.
 fn lighter(first: Trunk, other: Trunk) -> Trunk
     ensures { result ≡ pick (nat_lt other.weight first.weight) other first }
 {
@@ -39,9 +40,8 @@ pub(crate) fn lightest<O: GroupOracle>(o: &mut O, chosen: &[u32]) -> Trunk
     ensures same { O.DistanceOracle.meaning o.new ≡ O.DistanceOracle.meaning o.old }
 {
     let mut best = measure(o, chosen[0], chosen);
-    for i in 1..chosen.len() {
-        let trunk = measure(o, chosen[i], chosen);
-        best = lighter(best, trunk);
+    for start in &chosen[1..] {
+        best = lighter(best, measure(o, *start, chosen));
     }
     best
 }

@@ -1,22 +1,17 @@
 // How far a place is from groups.
+// Each contract asks that the groups' places are the oracle's: a struct that held them so would ask the same of its number of places.
 ghost use Rattle.std.specs.Prelude.{◌≡◌, ◌<◌, ◌≤◌, length};
 ghost use Rattle.ways.specs.Nearest.{Nearest};
 ghost use Rattle.ways.specs.Places.{AllBelow};
 ghost use Rattle.oracle.specs.Meaning.{far};
 ghost use Rattle.trees.specs.Groups.{cost, focus_on, GroupsBelow};
-ghost use Rattle.plan.specs.Groups.{members, lists};
+ghost use Rattle.plan.specs.Groups.{lists};
 
-use crate::ask::{bring, nearest_to};
+use crate::ask::bring;
 use crate::group::Group;
+use oracle::ask::nearest_to;
 use oracle::traits::{DistanceOracle, GroupOracle};
 use ways::near::Near;
-
-// The places of a group.
-pub(crate) fn members_of(g: &Group) -> &[u32]
-    ensures { result.now ≡ members g.now }
-{
-    &g.places[0..g.count]
-}
 
 // Brings the places into focus, and no other.
 fn load<O: GroupOracle>(o: &mut O, places: &[u32])
@@ -31,7 +26,7 @@ fn load<O: GroupOracle>(o: &mut O, places: &[u32])
 }
 
 // The nearest of the places to v.
-pub(crate) fn nearest_of<O: GroupOracle>(o: &mut O, v: u32, places: &[u32]) -> Option<Near>
+pub(crate) fn nearest_of<O: GroupOracle>(o: &mut O, v: u32, places: &[u32]) -> Option<Near<u32>>
     requires within { v < (O.DistanceOracle.meaning o.old).count }
     requires inside { AllBelow (O.DistanceOracle.meaning o.old).count places.now }
     ensures value { Nearest (O.DistanceOracle.meaning o.old).count (focus_on places.now) (far (O.DistanceOracle.meaning o.old) v) result }
@@ -49,12 +44,9 @@ pub(crate) fn cost_of<O: GroupOracle>(o: &mut O, v: u32, groups: &[Group]) -> Op
     ensures value { result ≡ cost (far (O.DistanceOracle.meaning o.old)) v (lists groups.now) }
     ensures same { O.DistanceOracle.meaning o.new ≡ O.DistanceOracle.meaning o.old }
 {
-    let mut sum = 0u64;
-    for g in groups {
-        match nearest_of(o, v, members_of(g)) {
-            Some(near) => sum += u64::from(near.distance),
-            None => return None,
-        }
+    let mut sum = 0;
+    for group in groups {
+        sum += u64::from(nearest_of(o, v, group.as_slice())?.distance);
     }
     Some(sum)
 }

@@ -1,43 +1,36 @@
-use Rattle.std.proofs.Common.{◌≡◌, ℕ, ◌+◌, ◌<◌, List, [], length, take, Some, sym, refl, ◌∙◌, subst, arith, length-set}
-use Rattle.std.proofs.lemmas.List.{take_all, take_more_set}
+use Rattle.std.proofs.Common.{◌≡◌, ℕ, ◌+◌, List, [], ◌∷◌, ◌++◌, length, take, drop, Some, sym, ap, ◌∙◌, subst, arith, length-append}
+use Rattle.std.proofs.lemmas.Grind.{common_steps}
 use Rattle.ways.proofs.Metric.{not_both}
-use Rattle.oracle.specs.Meaning.{Meaning}
+use Rattle.ways.specs.Few.{members}
+use Rattle.oracle.specs.Meaning.{Meaning, far}
+use Rattle.trees.specs.Groups.{cost}
 use Rattle.plan.specs.Groups.{lists}
 use Rattle.plan.specs.Choices.{Around}
-use Rattle.plan.proofs.Costs.{Item, item_inside, item_near, item_lost, lists_more}
-use Rattle.plan.proofs.Chosens.{around_more}
+use Rattle.plan.proofs.Costs.{item_of, item_lost, item_rest}
+use Rattle.plan.proofs.Chosens.{put_behind, around_more}
 use Rattle.plan.proofs.choose.gather.Goals as goal
-
-pub loop-i-init : goal.loop-i-init
-loop-i-init g c = (([], take_more_set c.args.chosen.now 0 c.args.x (omega (arith, c.requires.room)), refl), refl)
-
-pub nearest_of-requires : goal.nearest_of-requires
-nearest_of-requires g c =
-    let item : Item (g.O.DistanceOracle.meaning c.args.o.now) (g.O.DistanceOracle.meaning c.loop-i.o) c.args.x c.args.others.now c.loop-i.i c.members_of.result.now = record { group = c.index-others-i.result; same = c.loop-i.invariant.1; inside = c.requires.inside; is = c.index-others-i.is; whose = c.members_of.ensures; within = c.loop-i-test.true } in
-    record {
-      within = subst (λ (y : Meaning). c.args.x < y.count) (sym c.loop-i.invariant.1) c.requires.within;
-      inside = item_inside item;
-    }
 
 pub unreachable-requires : goal.unreachable-requires
 unreachable-requires g c =
-    let item : Item (g.O.DistanceOracle.meaning c.args.o.now) (g.O.DistanceOracle.meaning c.loop-i.o) c.args.x c.args.others.now c.loop-i.i c.members_of.result.now = record { group = c.index-others-i.result; same = c.loop-i.invariant.1; inside = c.requires.inside; is = c.index-others-i.is; whose = c.members_of.ensures; within = c.loop-i-test.true } in
-    not_both (item_lost item c.in_default.ensures.value) c.requires.reached.1
+    let item = item_of c.args.others.now c.loop-group.group-index c.loop-group.invariant.1 c.group-item.is c.as_slice.ensures.value c.loop-group-test.true in
+    not_both (item_lost (g.O.DistanceOracle.meaning c.loop-group.o) c.args.x item c.in_default.ensures.value) c.loop-group.invariant.2.1
 
-pub loop-i-preserved : goal.loop-i-preserved
-loop-i-preserved g c =
-    let item : Item (g.O.DistanceOracle.meaning c.args.o.now) (g.O.DistanceOracle.meaning c.loop-i.o) c.args.x c.args.others.now c.loop-i.i c.members_of.result.now = record { group = c.index-others-i.result; same = c.loop-i.invariant.1; inside = c.requires.inside; is = c.index-others-i.is; whose = c.members_of.ensures; within = c.loop-i-test.true } in
-    let said = c.in-Some.ensures in
-    let room : c.loop-i.i + 1 < length c.loop-i.chosen = omega (arith, c.loop-i-test.true, c.requires.room, c.loop-i.auto.chosen, length-set c.args.chosen.now 0 c.args.x) in (
-      around_more (g.O.DistanceOracle.meaning c.args.o.now) c.args.x (lists (take c.loop-i.i c.args.others.now)) (lists (take (c.loop-i.i + 1) c.args.others.now)) c.members_of.result.now c.in-Some.near c.loop-i.chosen (c.loop-i.i + 1) c.loop-i.invariant.0 (lists_more item) (item_near item (Some c.in-Some.near) said.value) room,
-      said.same ∙ c.loop-i.invariant.1,
+pub loop-group-preserved : goal.loop-group-preserved
+loop-group-preserved g c =
+    let m = g.O.DistanceOracle.meaning c.loop-group.o in
+    let gs = c.args.others.now in
+    let i = c.loop-group.group-index in
+    let item = item_of gs i c.loop-group.invariant.1 c.group-item.is c.as_slice.ensures.value c.loop-group-test.true in
+    let near = c.in-Some.near in
+    let cs : List ℕ = members c.loop-group.chosen in
+    let new : List ℕ = members c.push-in-loop-group.new.self in
+    let p : new ≡ cs ++ (near.place ∷ []) = put_behind c.push-in-loop-group.result cs new near.place 64 c.push-in-loop-group.ensures (omega arith) in
+    let a = around_more m c.args.x (lists (take i gs)) c.as_slice.result.now near c.loop-group.invariant.0 c.in-Some.ensures.value item.taken p in
+    let same = sym c.in-Some.ensures.same in
+    let r = item_rest m c.args.x item c.loop-group.invariant.2.0 c.loop-group.invariant.2.1 in (
+      subst (λ (y : Meaning). Around y c.args.x (lists (take (i + 1) gs)) new) same a,
+      grind (arith, common_steps),
+      (r.0, subst (λ (y : Meaning). cost (far y) c.args.x (lists (drop (i + 1) gs)) ≡ Some r.0) same r.1),
+      c.in-Some.ensures.same ∙ c.loop-group.invariant.3,
+      omega (arith, ap length p, length-append cs (near.place ∷ [])),
     )
-
-pub returns : goal.returns
-returns g c =
-    let all : take c.loop-i.i c.args.others.now ≡ c.args.others.now = take_all c.loop-i.i c.args.others.now c.loop-i-test.false in
-    let whole : take (c.loop-i.i + 1) c.loop-i.chosen ≡ c.loop-i.chosen = take_all (c.loop-i.i + 1) c.loop-i.chosen (omega (arith, c.loop-i-test.false, c.requires.room, c.loop-i.auto.chosen, length-set c.args.chosen.now 0 c.args.x)) in
-    record {
-      items = subst (λ (ys : List ℕ). Around (g.O.DistanceOracle.meaning c.args.o.now) c.args.x (lists c.args.others.now) ys) whole (subst (λ gs. Around (g.O.DistanceOracle.meaning c.args.o.now) c.args.x (lists gs) (take (c.loop-i.i + 1) c.loop-i.chosen)) all c.loop-i.invariant.0);
-      same = c.loop-i.invariant.1;
-    }

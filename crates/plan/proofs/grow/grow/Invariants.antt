@@ -14,7 +14,7 @@ decreases-loop-place g l = unwrap_or (far (g.O.DistanceOracle.meaning l.o) l.at 
 
 abbrev pub invariant-loop-branch : goal.invariant-loop-branch
 invariant-loop-branch g l =
-    Growing (g.O.DistanceOracle.meaning l.initial.o) l.start l.chosen l.initial.rows (g.O.DistanceOracle.meaning l.o) (g.O.GroupOracle.focused l.o) l.rows l.ducts l.weight
+    Growing (g.O.DistanceOracle.meaning l.fn.o) l.start l.chosen l.initial.rows (g.O.DistanceOracle.meaning l.o) (g.O.GroupOracle.focused l.o) l.rows l.ducts l.weight
 
 abbrev pub decreases-loop-branch : goal.decreases-loop-branch
 decreases-loop-branch g l = (g.O.DistanceOracle.meaning l.o).count - l.ducts

@@ -1,76 +1,40 @@
-use Rattle.std.proofs.Common.{◌≡◌, ℕ, ◌<◌, List, length, get_or, sym, refl, ap, ◌∙◌, subst}
-use Rattle.oracle.specs.Meaning.{Meaning, far}
-use Rattle.trees.specs.Groups.{cost, GroupsBelow}
-use Rattle.trees.proofs.Places.{below_on}
+use Rattle.std.proofs.Common.{refl, ◌∙◌}
 use Rattle.plan.specs.Groups.{lists}
-use Rattle.plan.specs.Choices.{Around, Chosen}
-use Rattle.plan.specs.Kept.{TellsLightest}
-use Rattle.plan.specs.Trunks.{Reached, Laid}
-use Rattle.plan.proofs.Planning.{none_joins, some_chosen, first_reached, kept_within, kept_reached, planned}
+use Rattle.plan.proofs.Planning.{none_joins, start_known, chosen_of, first_reached, kept_reached, planned}
 use Rattle.plan.proofs.lay.lay.Goals as goal
 
-pub gather-requires : goal.gather-requires
-gather-requires g c =
-    let m : Meaning = g.O.DistanceOracle.meaning c.args.o.now in
-    let said = c.in-Some.ensures in
-    let x : ℕ = c.in-Some.start.place in
-    record {
-      within = subst (λ (y : Meaning). x < y.count) (sym said.same) (below_on m.count x c.args.first.now c.requires.within said.value.0);
-      inside = subst (λ (y : Meaning). GroupsBelow y.count (lists c.args.others.now)) (sym said.same) c.requires.inside;
-      reached = (c.in-Some.start.cost, ap (λ (y : Meaning). cost (far y) x (lists c.args.others.now)) said.same ∙ said.value.1);
-      room = c.requires.room;
-    }
-
-pub lightest-best-requires : goal.lightest-best-requires
-lightest-best-requires g c =
+pub returns-in_err-start-clause-value : goal.returns-in_err-start-clause-value
+returns-in_err-start-clause-value g c =
     let o = c.args.o.now in
-    let m : Meaning = g.O.DistanceOracle.meaning o in
-    let cs : List ℕ = c.gather.new.chosen in
-    let said = c.in-Some.ensures in
-    let ch : Chosen m c.args.first.now (lists c.args.others.now) cs = record { start = c.in-Some.start; least = said.value; around = subst (λ (y : Meaning). Around y c.in-Some.start.place (lists c.args.others.now) cs) said.same c.gather.ensures.items } in
-    record {
-      some = some_chosen m (g.met.O.DistanceOracle.sound o) c.args.first.now (lists c.args.others.now) cs c.requires.within c.requires.inside ch;
-      reached = subst (λ (y : Meaning). Reached y (get_or cs 0 0) cs) (sym (c.gather.ensures.same ∙ said.same)) (first_reached m (g.met.O.DistanceOracle.sound o) c.args.first.now (lists c.args.others.now) cs c.requires.within c.requires.inside ch);
-    }
+    rw c.from_residual.ensures (none_joins (g.O.DistanceOracle.meaning o) (g.met.O.DistanceOracle.sound o) c.args.first.now _ c.in_err-start.ensures.value, refl)
 
-pub grow-trunk-requires : goal.grow-trunk-requires
-grow-trunk-requires g c =
-    let o = c.args.o.now in
-    let m : Meaning = g.O.DistanceOracle.meaning o in
-    let cs : List ℕ = c.gather.new.chosen in
-    let said = c.in-Some.ensures in
-    let ch : Chosen m c.args.first.now (lists c.args.others.now) cs = record { start = c.in-Some.start; least = said.value; around = subst (λ (y : Meaning). Around y c.in-Some.start.place (lists c.args.others.now) cs) said.same c.gather.ensures.items } in
-    let before : g.O.DistanceOracle.meaning c.gather.new.o ≡ m = c.gather.ensures.same ∙ said.same in
-    let light : TellsLightest m cs (length cs) c.lightest-best.result = subst (λ (y : Meaning). TellsLightest y cs (length cs) c.lightest-best.result) before c.lightest-best.ensures.trunk in
-    let after : g.O.DistanceOracle.meaning c.lightest-best.new.o ≡ m = c.lightest-best.ensures.same ∙ before in
-    record {
-      within = subst (λ (y : Meaning). c.lightest-best.result.start < y.count) (sym after) (kept_within m (g.met.O.DistanceOracle.sound o) c.args.first.now (lists c.args.others.now) cs c.requires.within c.requires.inside ch c.lightest-best.result c.lightest-best.result light);
-      reached = subst (λ (y : Meaning). Reached y c.lightest-best.result.start cs) (sym after) (kept_reached m (g.met.O.DistanceOracle.sound o) c.args.first.now (lists c.args.others.now) cs c.requires.within c.requires.inside ch c.lightest-best.result c.lightest-best.result light);
-    }
+pub gather-gathered-requires-clause-within : goal.gather-gathered-requires-clause-within
+gather-gathered-requires-clause-within g c =
+    let said = c.in_ok-start.ensures in
+    (start_known c.args.first.now (lists c.args.others.now) c.requires.within said.value said.same).0
 
-pub returns : goal.returns
-returns g c =
-    let o = c.args.o.now in
-    let m : Meaning = g.O.DistanceOracle.meaning o in
-    let cs : List ℕ = c.gather.new.chosen in
-    let said = c.in-Some.ensures in
-    let ch : Chosen m c.args.first.now (lists c.args.others.now) cs = record { start = c.in-Some.start; least = said.value; around = subst (λ (y : Meaning). Around y c.in-Some.start.place (lists c.args.others.now) cs) said.same c.gather.ensures.items } in
-    let before : g.O.DistanceOracle.meaning c.gather.new.o ≡ m = c.gather.ensures.same ∙ said.same in
-    let light : TellsLightest m cs (length cs) c.lightest-best.result = subst (λ (y : Meaning). TellsLightest y cs (length cs) c.lightest-best.result) before c.lightest-best.ensures.trunk in
-    let after : g.O.DistanceOracle.meaning c.lightest-best.new.o ≡ m = c.lightest-best.ensures.same ∙ before in
-    let laid = subst (λ (y : Meaning). Laid y c.lightest-best.result.start cs c.args.rows.now c.grow-trunk.new.rows c.grow-trunk.result) after c.grow-trunk.ensures.trunk in
-    record {
-      value = planned m (g.met.O.DistanceOracle.sound o) c.args.first.now (lists c.args.others.now) cs c.requires.within c.requires.inside ch c.lightest-best.result c.grow-trunk.result light c.args.rows.now c.grow-trunk.new.rows c.requires.roomy laid;
-      focus = c.clear-2.ensures.focus;
-      same = c.clear-2.ensures.same ∙ c.grow-trunk.ensures.same ∙ after;
-    }
+pub gather-gathered-requires-clause-reached : goal.gather-gathered-requires-clause-reached
+gather-gathered-requires-clause-reached g c =
+    let said = c.in_ok-start.ensures in
+    (c.in_ok-start.start.distance, (start_known c.args.first.now (lists c.args.others.now) c.requires.within said.value said.same).1)
 
-pub returns-in_default : goal.returns-in_default
-returns-in_default g c =
-    let o = c.args.o.now in
-    let said = c.in_default.ensures in
-    record {
-      value = (none_joins (g.O.DistanceOracle.meaning o) (g.met.O.DistanceOracle.sound o) c.args.first.now (lists c.args.others.now) said.value, refl);
-      focus = c.clear.ensures.focus;
-      same = c.clear.ensures.same ∙ said.same;
-    }
+pub lightest-best-requires-clause-reached : goal.lightest-best-requires-clause-reached
+lightest-best-requires-clause-reached g c =
+    let said = c.in_ok-start.ensures in
+    let ch = chosen_of c.args.first.now (lists c.args.others.now) said.value said.same c.gather-gathered.ensures.items c.as_slice-chosen.ensures.value in
+    first_reached (g.met.O.DistanceOracle.sound c.args.o.now) c.requires.within c.requires.inside ch (c.gather-gathered.ensures.same ∙ said.same)
+
+pub grow-requires : goal.grow-requires
+grow-requires g c =
+    let said = c.in_ok-start.ensures in
+    let ch = chosen_of c.args.first.now (lists c.args.others.now) said.value said.same c.gather-gathered.ensures.items c.as_slice-chosen.ensures.value in
+    let e = c.gather-gathered.ensures.same ∙ said.same in
+    let k = kept_reached (g.met.O.DistanceOracle.sound c.args.o.now) c.requires.within c.requires.inside ch c.lightest-best.ensures.trunk e (c.lightest-best.ensures.same ∙ e) in
+    record { within = k.0; reached = k.1 }
+
+pub returns-clause-value : goal.returns-clause-value
+returns-clause-value g c =
+    let said = c.in_ok-start.ensures in
+    let ch = chosen_of c.args.first.now (lists c.args.others.now) said.value said.same c.gather-gathered.ensures.items c.as_slice-chosen.ensures.value in
+    let e = c.gather-gathered.ensures.same ∙ said.same in
+    planned (g.met.O.DistanceOracle.sound c.args.o.now) c.requires.within c.requires.inside ch c.lightest-best.ensures.trunk e c.requires.roomy c.grow.ensures.trunk (c.lightest-best.ensures.same ∙ e)

@@ -1,8 +1,8 @@
-use Rattle.std.proofs.Common.{◌≡◌}
+use Rattle.std.proofs.Common.{◌≡◌, ◌+◌}
 use Rattle.plan.specs.Kept.{TellsLightest}
 use Rattle.plan.proofs.light.lightest.Given as goal
 
-abbrev pub invariant-loop-i : goal.invariant-loop-i
-invariant-loop-i g l =
-    TellsLightest (g.O.DistanceOracle.meaning l.initial.o) l.chosen l.i l.best
-    × (g.O.DistanceOracle.meaning l.o ≡ g.O.DistanceOracle.meaning l.initial.o)
+abbrev pub invariant-loop-start : goal.invariant-loop-start
+invariant-loop-start g l =
+    TellsLightest (g.O.DistanceOracle.meaning l.fn.o) l.chosen (l.start-index + 1) l.best
+    × (g.O.DistanceOracle.meaning l.o ≡ g.O.DistanceOracle.meaning l.fn.o)

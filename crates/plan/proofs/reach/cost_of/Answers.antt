@@ -1,38 +1,26 @@
-use Rattle.std.proofs.Common.{◌≡◌, ◌+◌, ◌<◌, Some, sym, ap, ◌∙◌, subst, arith, rules}
-use Rattle.std.proofs.lemmas.List.{take_all}
+use Rattle.std.proofs.Common.{◌≡◌, ◌+◌, Some, sym, ap, ◌∙◌, subst, arith, drop}
+use Rattle.std.proofs.lemmas.Grind.{common_steps}
+use Rattle.ways.specs.Options.{plus}
 use Rattle.oracle.specs.Meaning.{Meaning, far}
 use Rattle.trees.specs.Groups.{cost}
 use Rattle.plan.specs.Groups.{lists}
-use Rattle.plan.proofs.Costs.{Item, item_inside, item_more, item_lost}
+use Rattle.plan.proofs.Costs.{item_of, item_more, item_lost}
 use Rattle.plan.proofs.reach.cost_of.Goals as goal
 
-pub nearest_of-requires : goal.nearest_of-requires
-nearest_of-requires g c =
-    let item : Item (g.O.DistanceOracle.meaning c.args.o.now) (g.O.DistanceOracle.meaning c.loop-g.o) c.args.v c.args.groups.now c.loop-g.g-index c.members_of.result.now = record { group = c.g-item.result; same = c.loop-g.invariant.1; inside = c.requires.inside; is = c.g-item.is; whose = c.members_of.ensures; within = c.loop-g-test.true } in
-    record {
-      within = subst (λ (y : Meaning). c.args.v < y.count) (sym c.loop-g.invariant.1) c.requires.within;
-      inside = item_inside item;
-    }
+pub returns-in_err-nearest_of-clause-value : goal.returns-in_err-nearest_of-clause-value
+returns-in_err-nearest_of-clause-value g c =
+    let m = g.O.DistanceOracle.meaning c.loop-group.o in
+    let lost = item_lost m c.args.v (item_of c.args.groups.now c.loop-group.group-index c.loop-group.invariant.1 c.group-item.is c.as_slice.ensures.value c.loop-group-test.true) c.in_err-nearest_of.ensures.value in
+    let none = ap (plus (Some c.loop-group.sum)) lost in
+    let same = ap (λ (y : Meaning). cost (far y) c.args.v (lists c.args.groups.now)) c.loop-group.invariant.2 in
+    c.from_residual.ensures ∙ sym none ∙ c.loop-group.invariant.0 ∙ same
 
-pub loop-g-preserved : goal.loop-g-preserved
-loop-g-preserved g c =
-    let item : Item (g.O.DistanceOracle.meaning c.args.o.now) (g.O.DistanceOracle.meaning c.loop-g.o) c.args.v c.args.groups.now c.loop-g.g-index c.members_of.result.now = record { group = c.g-item.result; same = c.loop-g.invariant.1; inside = c.requires.inside; is = c.g-item.is; whose = c.members_of.ensures; within = c.loop-g-test.true } in
-    let e : c.loop-g.sum + c.in-Some.near.distance ≡ c.loop-g.sum + c.from-sum.result = omega (arith, c.from-sum.ensures) in (
-      ap Some (sym e) ∙ item_more item c.loop-g.sum c.in-Some.near c.loop-g.invariant.0 c.in-Some.ensures.value,
-      c.in-Some.ensures.same ∙ c.loop-g.invariant.1,
-      search rules,
+pub loop-group-preserved : goal.loop-group-preserved
+loop-group-preserved g c =
+    let gs = c.args.groups.now in
+    let more = item_more (g.O.DistanceOracle.meaning c.loop-group.o) c.args.v (item_of gs c.loop-group.group-index c.loop-group.invariant.1 c.group-item.is c.as_slice.ensures.value c.loop-group-test.true) c.loop-group.sum c.from.result c.in_ok-nearest_of.field-0 c.in_ok-nearest_of.ensures.value c.from.ensures in (
+      subst (λ (y : Meaning). plus (Some (c.loop-group.sum + c.from.result)) (cost (far y) c.args.v (lists (drop (c.loop-group.group-index + 1) gs))) ≡ cost (far y) c.args.v (lists gs)) (sym c.in_ok-nearest_of.ensures.same) (more ∙ c.loop-group.invariant.0),
+      grind (arith, common_steps),
+      c.in_ok-nearest_of.ensures.same ∙ c.loop-group.invariant.2,
+      omega arith,
     )
-
-pub returns : goal.returns
-returns g c = record {
-  value = c.loop-g.invariant.0 ∙ ap (λ gs. cost (far (g.O.DistanceOracle.meaning c.args.o.now)) c.args.v (lists gs)) (take_all c.loop-g.g-index c.args.groups.now c.loop-g-test.false);
-  same = c.loop-g.invariant.1;
-}
-
-pub returns-in-None : goal.returns-in-None
-returns-in-None g c =
-    let item : Item (g.O.DistanceOracle.meaning c.args.o.now) (g.O.DistanceOracle.meaning c.loop-g.o) c.args.v c.args.groups.now c.loop-g.g-index c.members_of.result.now = record { group = c.g-item.result; same = c.loop-g.invariant.1; inside = c.requires.inside; is = c.g-item.is; whose = c.members_of.ensures; within = c.loop-g-test.true } in
-    record {
-      value = sym (item_lost item c.in-None.ensures.value);
-      same = c.in-None.ensures.same ∙ c.loop-g.invariant.1;
-    }

@@ -1,0 +1,6 @@
+use Rattle.std.proofs.Common.{nat_lt, rules}
+use Rattle.std.proofs.lemmas.Fn.{always_returns_same}
+use Rattle.job.proofs.places.rises.Goals as goal
+
+pub returns : goal.returns
+returns c = c.is_sorted_by.ensures.cases nat_lt (always_returns_same _ _ _ (λ a r f' k. search rules))
