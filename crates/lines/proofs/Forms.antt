@@ -4,6 +4,7 @@ use Rattle.std.proofs.lemmas.List.{take_rest}
 use Rattle.lines.specs.Text.{Numbered, Next, NoNext, held}
 use Rattle.lines.specs.Said.{Said, places, ducts, duct, fittings, fitting, letter_of, numbers_of, Formed, Formless, capped, Reads, Alone, Ducting, Fitted}
 use Rattle.lines.specs.declared.line.Line.{Line}
+use Rattle.lines.specs.declared.line.ReadFitting.{ReadFitting}
 use Rattle.lines.specs.declared.line.Line.TheVariants.{Places, Ducts, Duct, Fittings}
 use Rattle.lines.proofs.Numbers.{opens_once, stops_numbered}
 
@@ -21,7 +22,7 @@ second text rest n x v vs q =
 pub capped_held : (n m v : ℕ) → n ≡ held v → m ≡ capped n → m ≡ capped v
 capped_held n m v e f = omega arith
 
-pub duct_read : (text behind rest : List ℕ) (n m a b first : ℕ) → Next text n behind → Next behind m rest → a ≡ capped n → b ≡ capped m → (r : Option Line) → Alone rest (Duct first a b) r → Ducting text first r
+pub duct_read : (text behind rest : List ℕ) (n m a b first : ℕ) → Next text n behind → Next behind m rest → a ≡ capped n → b ≡ capped m → (r : Option (Line ReadFitting)) → Alone rest (Duct (record { first = first; second = a; length = b })) r → Ducting text first r
 duct_read text behind rest n m a b first x y e f (Some l) h =
     let p = capped_held n a x.worth x.number e in
     let q = capped_held m b y.worth y.number f in
@@ -45,7 +46,7 @@ no_number text t letter e f (duct a b l) h = no_first t f a (b ∷ l ∷ []) (nu
 no_number text t letter e f (fittings k) h = no_first t f k [] (numbers_are text t letter e (fittings k) h)
 no_number text t letter e f (fitting g c ps) h = no_first t f g (c ∷ ps) (numbers_are text t letter e (fitting g c ps) h)
 
-pub places_read : (text t rest : List ℕ) (letter n k : ℕ) → text ≡ letter ∷ t → letter ≡ 80 → Next t n rest → k ≡ capped n → (r : Option Line) → Alone rest (Places k) r → Reads text r
+pub places_read : (text t rest : List ℕ) (letter n k : ℕ) → text ≡ letter ∷ t → letter ≡ 80 → Next t n rest → k ≡ capped n → (r : Option (Line ReadFitting)) → Alone rest (Places k) r → Reads text r
 places_read text t rest letter n k e z x f (Some l) h =
     let p = capped_held n k x.worth x.number f in
     let q = h.1 in
@@ -59,7 +60,7 @@ places_read text t rest letter n k e z x f None h = go
     go (fittings v) g = omega (arith, letter_is text t letter e (fittings v) g)
     go (fitting a b ps) g = omega (arith, letter_is text t letter e (fitting a b ps) g)
 
-pub ducts_read : (text t rest : List ℕ) (letter n k : ℕ) → text ≡ letter ∷ t → letter ≡ 68 → Next t n rest → k ≡ capped n → (r : Option Line) → Alone rest (Ducts k) r → Reads text r
+pub ducts_read : (text t rest : List ℕ) (letter n k : ℕ) → text ≡ letter ∷ t → letter ≡ 68 → Next t n rest → k ≡ capped n → (r : Option (Line ReadFitting)) → Alone rest (Ducts k) r → Reads text r
 ducts_read text t rest letter n k e z x f (Some l) h =
     let p = capped_held n k x.worth x.number f in
     let q = h.1 in
@@ -73,7 +74,7 @@ ducts_read text t rest letter n k e z x f None h = go
     go (fittings v) g = omega (arith, letter_is text t letter e (fittings v) g)
     go (fitting a b ps) g = omega (arith, letter_is text t letter e (fitting a b ps) g)
 
-pub fittings_read : (text t rest : List ℕ) (letter n k : ℕ) → text ≡ letter ∷ t → letter ≡ 70 → Next t n rest → k ≡ capped n → (r : Option Line) → Alone rest (Fittings k) r → Reads text r
+pub fittings_read : (text t rest : List ℕ) (letter n k : ℕ) → text ≡ letter ∷ t → letter ≡ 70 → Next t n rest → k ≡ capped n → (r : Option (Line ReadFitting)) → Alone rest (Fittings k) r → Reads text r
 fittings_read text t rest letter n k e z x f (Some l) h =
     let p = capped_held n k x.worth x.number f in
     let q = h.1 in
@@ -87,7 +88,7 @@ fittings_read text t rest letter n k e z x f None h = go
     go (duct a b l) g = omega (arith, letter_is text t letter e (duct a b l) g)
     go (fitting a b ps) g = omega (arith, letter_is text t letter e (fitting a b ps) g)
 
-pub duct_line : (text t rest : List ℕ) (letter n k : ℕ) → text ≡ letter ∷ t → letter ≡ 100 → Next t n rest → k ≡ capped n → (r : Option Line) → Ducting rest k r → Reads text r
+pub duct_line : (text t rest : List ℕ) (letter n k : ℕ) → text ≡ letter ∷ t → letter ≡ 100 → Next t n rest → k ≡ capped n → (r : Option (Line ReadFitting)) → Ducting rest k r → Reads text r
 duct_line text t rest letter n k e z x f (Some l) h =
     let p = capped_held n k x.worth x.number f in
     let q = h.3 in
@@ -101,7 +102,7 @@ duct_line text t rest letter n k e z x f None h = go
     go (fittings v) g = omega (arith, letter_is text t letter e (fittings v) g)
     go (fitting a b ps) g = omega (arith, letter_is text t letter e (fitting a b ps) g)
 
-pub fitting_line : (text t rest : List ℕ) (letter n k : ℕ) → text ≡ letter ∷ t → letter ≡ 102 → Next t n rest → k ≡ capped n → (r : Option Line) → Fitted rest k r → Reads text r
+pub fitting_line : (text t rest : List ℕ) (letter n k : ℕ) → text ≡ letter ∷ t → letter ≡ 102 → Next t n rest → k ≡ capped n → (r : Option (Line ReadFitting)) → Fitted rest k r → Reads text r
 fitting_line text t rest letter n k e z x f (Some l) h =
     let p = capped_held n k x.worth x.number f in
     let q = h.4 in

@@ -1,12 +1,12 @@
 -- A list that grows by one number.
-use Rattle.std.proofs.Common.{◌≡◌, ℕ, suc, ◌+◌, ◌<◌, ◌≤◌, Bool, true, false, cond, ltb, List, [], ◌∷◌, ◌++◌, map, length, take, set, refl, arith, rules}
-use Rattle.std.proofs.lemmas.List.{take_all, length_push, take_more_set, take-append-le, length-map, map_push}
+use Rattle.std.proofs.Common.{◌≡◌, ℕ, suc, ◌+◌, ◌<◌, ◌≤◌, Bool, true, false, cond, ltb, List, [], ◌∷◌, ◌++◌, map, length, take, MatchResult, Ok, Err, Result, ap, refl, arith, rules}
+use Rattle.std.proofs.lemmas.List.{take_all, length_push, length-take, take-append-le, length-map, map_push}
+use Rattle.ways.specs.declared.few.Full.{Full}
 use Rattle.lines.specs.Said.{capped, shorts}
 
--- one more number is stored where there is room
-pub store : (out ns : List ℕ) (v : ℕ) → length out ≡ 17 → length ns < 17 → take (length ns) out ≡ take 17 (map capped ns) → take (length (ns ++ v ∷ [])) (set out (length ns) (capped v)) ≡ take 17 (map capped (ns ++ v ∷ []))
-store out ns v w l e =
-    let a = take_more_set out (length ns) (capped v) (omega arith) in
+-- one more number is put behind where there is room
+pub store : (ns : List ℕ) (v : ℕ) → length ns < 17 → take 17 (map capped (ns ++ v ∷ [])) ≡ take 17 (map capped ns) ++ capped v ∷ []
+store ns v l =
     let lm = length-map ns capped in
     let b = take_all 17 (map capped ns) (omega arith) in
     let m = map_push capped ns v in
@@ -16,14 +16,29 @@ store out ns v w l e =
     cc
 
 -- and else passed over
-pub pass : (out ns : List ℕ) (v : ℕ) → length out ≡ 17 → 17 ≤ length ns → take (length ns) out ≡ take 17 (map capped ns) → take (length (ns ++ v ∷ [])) out ≡ take 17 (map capped (ns ++ v ∷ []))
-pass out ns v w l e =
-    let p = length_push ns v in
-    let a = take_all (length (ns ++ v ∷ [])) out (omega arith) in
-    let b = take_all (length ns) out (omega arith) in
+pub pass : (ns : List ℕ) (v : ℕ) → 17 ≤ length ns → take 17 (map capped (ns ++ v ∷ [])) ≡ take 17 (map capped ns)
+pass ns v l =
     let lm = length-map ns capped in
     let m = map_push capped ns v in
     let d = take-append-le 17 (map capped ns) (capped v ∷ []) (omega arith) in
+    cc
+
+-- a number more, put behind or only counted
+pub pushed : (old new ns : List ℕ) (v : ℕ) (r : Result (Unit {0}) Full) → old ≡ take 17 (map capped ns) → length new ≤ 17 → MatchResult r (λ _. new ≡ old ++ capped v ∷ []) (λ _. (new ≡ old) × (length old ≡ 17)) → new ≡ take 17 (map capped (ns ++ v ∷ []))
+pushed old new ns v (Ok u) e few h =
+    let long = ap length h in
+    let more = length_push old (capped v) in
+    let old-long = ap length e in
+    let cut = length-take 17 (map capped ns) in
+    let lm = length-map ns capped in
+    let s = store ns v (omega (arith, long, more, old-long, cut, lm)) in
+    cc
+pushed old new ns v (Err u) e few h =
+    let old-long = ap length e in
+    let cut = length-take 17 (map capped ns) in
+    let lm = length-map ns capped in
+    let s = pass ns v (omega (arith, h.1, old-long, cut, lm)) in
+    let same = h.0 in
     cc
 
 -- a short number behind short ones

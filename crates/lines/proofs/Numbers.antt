@@ -1,7 +1,6 @@
 -- A text of numbers: read in one way only, and its steps.
-use Rattle.std.proofs.Common.{◌≡◌, ℕ, ◌+◌, ◌-◌, ◌<◌, ◌≤◌, List, [], ◌∷◌, ◌++◌, length, get_or, take, drop, sym, refl, ap, ◌∙◌, subst, arith}
+use Rattle.std.proofs.Common.{◌≡◌, ℕ, ◌+◌, ◌<◌, ◌≤◌, List, [], ◌∷◌, ◌++◌, length, get_or, drop, sym, refl, ap, ◌∙◌, subst, arith}
 use Rattle.std.proofs.lemmas.List.{length-append, length_push, nil_from_length, append_cancel_right, append_assoc, append-nil}
-use Rattle.std.proofs.lemmas.Slice.{first_rest}
 use Rattle.std.specs.Str.Parse.{AllDigits, digits_value}
 use Rattle.std.specs.Int.{IsInRange}
 use Rattle.std.proofs.lemmas.Str.Parse.{digit_at}
@@ -95,16 +94,6 @@ along text rest after n list list' x a f =
         let i = b.is in
         let j = h.1 in
         (b.tail, cc, b.numbered)
-
-pub start : (text : List ℕ) (list : Listed) → Lists list [] → list.count ≡ 0 → Along text text list
-start text list l z = record { done = []; lists = l; room = omega arith; so_far = λ ms h. h; only = λ ns h. (ns, refl, h) }
-
--- a blank at the front
-pub blank_first : (text : List ℕ) → get_or text 0 0 ≡ 32 → text ≡ 32 ∷ take (length text - 1) (drop 1 text)
-blank_first [] e = absurd (omega arith)
-blank_first (c ∷ text) e =
-    let f = first_rest (c ∷ text) 0 (omega arith) in
-    cc
 
 pub finished : (text rest : List ℕ) (list : Listed) → length rest ≤ 0 → Along text rest list → (ns : List ℕ) × Numbered text ns × Lists list ns
 finished text rest list z a =

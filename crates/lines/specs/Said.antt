@@ -1,11 +1,13 @@
 -- What a line of a ticket says, its text, and how its reader tells it. Assumes nothing.
 use Rattle.std.specs.Prelude.{◌≡◌, ℕ, ◌^◌, ◌<◌, min, List, [], ◌∷◌, map, length, take, Some, None, Ok, Err, Option, Result, nat_lt}
 use Rattle.std.specs.List.{prefix_len}
+use Rattle.ways.specs.Few.{members}
 use Rattle.lines.specs.declared.fault.ReaderFault.{ReaderFault}
 use Rattle.lines.specs.declared.fault.ReaderFault.TheVariants.{Form}
 use Rattle.lines.specs.declared.line.Line.{Line}
 use Rattle.lines.specs.declared.line.Line.TheVariants.{Places, Ducts, Duct, Fittings, Fitting}
 use Rattle.lines.specs.declared.line.Listed.{Listed}
+use Rattle.lines.specs.declared.line.ReadFitting.{ReadFitting}
 use Rattle.lines.specs.Text.{Numbered, held, tail_text}
 
 -- the five kinds of line, each with its numbers, however large; a fitting has its number, its count and its places
@@ -56,25 +58,24 @@ shorts ns = prefix_len (λ n. nat_lt n 10000000) ns
 pub record Lists (l : Listed) (ns : List ℕ) : Type 0 where
   pub counted : l.count ≡ length ns
   pub few : length ns < 2 ^ 63
-  pub wide : length l.front ≡ 17
-  pub front : take (length ns) l.front ≡ take 17 (map capped ns)
+  pub front : members l.front ≡ take 17 (map capped ns)
   pub short : l.short ≡ shorts ns
 
 -- how a line is told
-abbrev pub Tells : Line → Said → Type 0
+abbrev pub Tells : Line ReadFitting → Said → Type 0
 Tells line (places n) = line ≡ Places (capped n)
 Tells line (ducts m) = line ≡ Ducts (capped m)
-Tells line (duct a b l) = line ≡ Duct (capped a) (capped b) (capped l)
+Tells line (duct a b l) = line ≡ Duct (record { first = capped a; second = capped b; length = capped l })
 Tells line (fittings k) = line ≡ Fittings (capped k)
-Tells line (fitting f c ps) = (l : Listed) × (line ≡ Fitting (capped f) (held c) l) × Lists l ps
+Tells line (fitting f c ps) = (l : Listed) × (line ≡ Fitting (record { number = capped f; count = held c; places = l })) × Lists l ps
 
 -- a text read as a line: the line that it is, or none that is lawful in form
-abbrev pub Reads : List ℕ → Option Line → Type 0
+abbrev pub Reads : List ℕ → Option (Line ReadFitting) → Type 0
 Reads text (Some line) = (s : Said) × Formed text s × Tells line s
 Reads text None = Formless text
 
 -- the same, with the fault of a line at this number
-abbrev pub ReadsAt : List ℕ → ℕ → Result Line ReaderFault → Type 0
+abbrev pub ReadsAt : List ℕ → ℕ → Result (Line ReadFitting) ReaderFault → Type 0
 ReadsAt text at (Ok line) = (s : Said) × Formed text s × Tells line s
 ReadsAt text at (Err e) = (e ≡ Form at) × Formless text
 
@@ -84,16 +85,16 @@ Listing text (Some l) = (ns : List ℕ) × Numbered text ns × Lists l ns
 Listing text None = (ns : List ℕ) → Numbered text ns → ⊥
 
 -- behind the last number of a line
-abbrev pub Alone : List ℕ → Line → Option Line → Type 0
+abbrev pub Alone : List ℕ → Line ReadFitting → Option (Line ReadFitting) → Type 0
 Alone rest line (Some l) = (rest ≡ []) × (l ≡ line)
 Alone rest line None = rest ≡ [] → ⊥
 
 -- behind a duct's first number
-abbrev pub Ducting : List ℕ → ℕ → Option Line → Type 0
-Ducting text first (Some line) = (b : ℕ) × (l : ℕ) × Numbered text (b ∷ l ∷ []) × (line ≡ Duct first (capped b) (capped l))
+abbrev pub Ducting : List ℕ → ℕ → Option (Line ReadFitting) → Type 0
+Ducting text first (Some line) = (b : ℕ) × (l : ℕ) × Numbered text (b ∷ l ∷ []) × (line ≡ Duct (record { first = first; second = capped b; length = capped l }))
 Ducting text first None = (b l : ℕ) → Numbered text (b ∷ l ∷ []) → ⊥
 
 -- behind a fitting's number
-abbrev pub Fitted : List ℕ → ℕ → Option Line → Type 0
-Fitted text number (Some line) = (c : ℕ) × (ps : List ℕ) × (l : Listed) × Numbered text (c ∷ ps) × (line ≡ Fitting number (held c) l) × Lists l ps
+abbrev pub Fitted : List ℕ → ℕ → Option (Line ReadFitting) → Type 0
+Fitted text number (Some line) = (c : ℕ) × (ps : List ℕ) × (l : Listed) × Numbered text (c ∷ ps) × (line ≡ Fitting (record { number = number; count = held c; places = l })) × Lists l ps
 Fitted text number None = (c : ℕ) (ps : List ℕ) → Numbered text (c ∷ ps) → ⊥

@@ -6,10 +6,6 @@ ghost use Rattle.lines.specs.Text.{Unbroken};
 pub fn split_line(bytes: &[u8]) -> Option<(&[u8], &[u8])>
     ensures { elim result [ Some p ↦ (bytes.now ≡ p.0.now ++ (10 ∷ p.1.now)) × Unbroken p.0.now | None ↦ Unbroken bytes.now ] }
 {
-    for (i, b) in bytes.iter().enumerate() {
-        if *b == b'\n' {
-            return Some((&bytes[..i], &bytes[i + 1..]));
-        }
-    }
-    None
+    let end = bytes.iter().position(|b| *b == b'\n')?;
+    Some((&bytes[..end], &bytes[end + 1..]))
 }

@@ -7,7 +7,7 @@ pub mod laws;
 pub mod line;
 mod list;
 mod numeral;
+pub mod page;
 pub mod read;
 pub mod refusals;
-pub mod said;
 pub mod write;

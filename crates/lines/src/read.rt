@@ -2,30 +2,27 @@
 ghost use Rattle.lines.specs.Said.{Reads, ReadsAt, Alone, Ducting, Fitted};
 
 use crate::fault::ReaderFault;
-use crate::line::Line;
+use crate::line::{Line, ReadFitting};
 use crate::list::{listed, next, short_of};
 use crate::numeral::number;
+use ways::row::Row;
 
 // Reads a line without its end, the one of this number in its ticket.
-pub fn read_line(text: &[u8], at: u64) -> Result<Line, ReaderFault>
+pub fn read_line(text: &[u8], at: u64) -> Result<Line<ReadFitting>, ReaderFault>
     ensures { ReadsAt text.now at result }
 {
-    match read(text) {
-        Some(line) => Ok(line),
-        None => Err(ReaderFault::Form { line: at }),
-    }
+    read(text).ok_or(ReaderFault::Form { line: at })
 }
 
 // The line, or none where the text breaks the form.
-fn read(text: &[u8]) -> Option<Line>
+fn read(text: &[u8]) -> Option<Line<ReadFitting>>
     ensures { Reads text.now result }
 {
+    // A pattern has no `?`.
     let [letter, b' ', tail @ ..] = text else {
         return None;
     };
-    let Some((n, rest)) = number(tail) else {
-        return None;
-    };
+    let (n, rest) = number(tail)?;
     let n = short_of(n);
     match *letter as char {
         'P' => alone(rest, Line::Places { n }),
@@ -38,45 +35,37 @@ fn read(text: &[u8]) -> Option<Line>
 }
 
 // The line, where nothing follows its one number.
-fn alone(rest: &[u8], line: Line) -> Option<Line>
+fn alone(rest: &[u8], line: Line<ReadFitting>) -> Option<Line<ReadFitting>>
     ensures { Alone rest.now line result }
 {
-    if rest.len() == 0 { Some(line) } else { None }
+    rest.is_empty().then_some(line)
 }
 
 // A duct behind its first number.
-fn duct(first: u32, text: &[u8]) -> Option<Line>
+fn duct(first: u32, text: &[u8]) -> Option<Line<ReadFitting>>
     ensures { Ducting text.now first result }
 {
-    let Some((second, behind)) = next(text) else {
-        return None;
-    };
-    let Some((length, rest)) = next(behind) else {
-        return None;
-    };
+    let (second, behind) = next(text)?;
+    let (length, rest) = next(behind)?;
     alone(
         rest,
-        Line::Duct {
+        Line::Duct(Row {
             first,
             second: short_of(second),
             length: short_of(length),
-        },
+        }),
     )
 }
 
 // A fitting behind its number.
-fn fitting(number: u32, text: &[u8]) -> Option<Line>
+fn fitting(number: u32, text: &[u8]) -> Option<Line<ReadFitting>>
     ensures { Fitted text.now number result }
 {
-    let Some((count, rest)) = next(text) else {
-        return None;
-    };
-    let Some(places) = listed(rest) else {
-        return None;
-    };
-    Some(Line::Fitting {
+    let (count, rest) = next(text)?;
+    let places = listed(rest)?;
+    Some(Line::Fitting(ReadFitting {
         number,
         count,
         places,
-    })
+    }))
 }

@@ -15,11 +15,11 @@ impl Refusal for ReaderFault {
 
     fn number(&self) -> u32 {
         match self {
-            ReaderFault::Form { line: _ } => 11,
-            ReaderFault::Section { line: _ } => 12,
-            ReaderFault::Limit { which: _ } => 13,
-            ReaderFault::Memory { needed: _ } => 31,
-            ReaderFault::OtherPlaces { places: _ } => 35,
+            ReaderFault::Form { .. } => 11,
+            ReaderFault::Section { .. } => 12,
+            ReaderFault::Limit { .. } => 13,
+            ReaderFault::Memory { .. } => 31,
+            ReaderFault::OtherPlaces { .. } => 35,
         }
     }
 
@@ -29,10 +29,10 @@ impl Refusal for ReaderFault {
 
     fn spot(&self) -> u64 {
         match self {
-            ReaderFault::Form { line } => *line,
-            ReaderFault::Section { line } => *line,
-            ReaderFault::Limit { which } => *which,
-            ReaderFault::Memory { needed } => *needed,
+            ReaderFault::Form { line: spot }
+            | ReaderFault::Section { line: spot }
+            | ReaderFault::Limit { which: spot }
+            | ReaderFault::Memory { needed: spot } => *spot,
             ReaderFault::OtherPlaces { places } => u64::from(*places),
         }
     }

@@ -21,16 +21,16 @@ use Rattle.ticket.specs.Tickets.{ended, duct_text, fit_text, ticket_text, Climbs
 
 -- a step that is taken passed each check
 passed : (b : Bool) (e : TicketFault) (o : Step) (t : State) → refuse b e o ≡ Ok t → (b ≡ false) × (o ≡ Ok t)
-passed true e o t h = let z : ◌≡◌ {A = ℕ} 0 1 = cc in absurd (omega arith)
+passed true e o t h = cc
 passed false e o t h = (refl, h)
 
 by_frame_ok : (at : ℕ) (r : Verdict) (t u : State) → by_frame at r t ≡ Ok u → (r ≡ Ok tt) × (t ≡ u)
 by_frame_ok at (Ok x) t u h = (refl, cc)
-by_frame_ok at (Err e) t u h = let z : ◌≡◌ {A = ℕ} 0 1 = cc in absurd (omega arith)
+by_frame_ok at (Err e) t u h = cc
 
 by_job_ok : (at : ℕ) (r : Option JobFault) (t u : State) → by_job at r t ≡ Ok u → (r ≡ None) × (t ≡ u)
 by_job_ok at None t u h = (refl, cc)
-by_job_ok at (Some e) t u h = let z : ◌≡◌ {A = ℕ} 0 1 = cc in absurd (omega arith)
+by_job_ok at (Some e) t u h = cc
 
 not_section : (at : ℕ) (t : State) → ◌≡◌ {A = Step} (Err (section at)) (Ok t) → ⊥
 not_section at t h = let z : ◌≡◌ {A = ℕ} 0 1 = cc in omega arith

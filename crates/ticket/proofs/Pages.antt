@@ -1,26 +1,24 @@
 -- Text after text, with its length. Assumes nothing.
-use Rattle.std.proofs.Common.{◌≡◌, ℕ, zero, suc, ◌+◌, ◌-◌, ◌^◌, ◌<◌, ◌≤◌, min, true, false, ltb, List, [], ◌∷◌, ◌++◌, length, get_or, take, Some, None, Ok, Err, vec_items, vec_len, vec_capacity, Option, Vec, sym, refl, ap, ◌∙◌, subst, arith}
+use Rattle.std.proofs.Common.{◌≡◌, ℕ, zero, suc, ◌+◌, ◌-◌, ◌<◌, ◌≤◌, true, false, ltb, List, [], ◌∷◌, ◌++◌, length, get_or, take, Some, None, Ok, Err, vec_items, vec_len, vec_capacity, Option, Vec, sym, refl, ap, ◌∙◌, subst, arith}
 use Rattle.std.proofs.lemmas.Bool.{ne_eqb, eq-eqb, lt-ltb, le-ltb}
-use Rattle.std.proofs.lemmas.List.{append_assoc, append-nil, length-append, take-take, take_at}
+use Rattle.std.proofs.lemmas.List.{append_assoc, append-nil, length-append, take-take, take_at, take_all, take_more, flat_map_more}
 use Rattle.std.specs.List.{flat_map}
 use Rattle.std.specs.Option.{option_to_list}
 use Rattle.std.specs.declared.alloc.Global.{Global}
 use Rattle.job.specs.Day.{Standing, below}
-use Rattle.lines.specs.Pages.{Puts}
-use Rattle.lines.specs.Text.{held}
-use Rattle.lines.proofs.Pages.{puts_none, puts_more, puts_joined, length_joined, puts_all}
+use Rattle.lines.specs.Pages.{Puts, Adds}
+use Rattle.lines.specs.declared.page.Page.{Page}
+use Rattle.lines.proofs.Pages.{adds_more, puts_all}
 use Rattle.lines.specs.declared.fault.ReaderFault.TheVariants.{Memory}
 use Rattle.ticket.specs.Tickets.{Wrote, entry, fits_below, fit_text, write_verdict}
 
-pub wrote_none : (v : Vec ℕ Global) → Wrote v v 0 []
-wrote_none v = record { puts = puts_none v; long = refl }
-
-pub wrote_more : (u v w : Vec ℕ Global) (a b c : ℕ) (s t : List ℕ) → Wrote u v a s → Wrote v w b t → c ≡ min (a + b) (2 ^ 64 - 1) → Wrote u w c (s ++ t)
-wrote_more u v w a b c s t p q e = record { puts = puts_more u v w s t p.puts q.puts; long = omega (arith, p.long, q.long, length-append s t) }
-
--- one more of many texts
-pub wrote_joined : {X : Type 0} (f : X → List ℕ) (u v w : Vec ℕ Global) (a b c : ℕ) (xs : List X) (i : ℕ) (d : X) → i < length xs → Wrote u v a (flat_map f (take i xs)) → Wrote v w b (f (get_or xs i d)) → c ≡ min (a + b) (2 ^ 64 - 1) → Wrote u w c (flat_map f (take (i + 1) xs))
-wrote_joined f u v w a b c xs i d l p q e = record { puts = puts_joined f u v w xs i d l p.puts q.puts; long = omega (arith, p.long, q.long, length_joined f xs i d l) }
+-- nothing is appended
+pub adds_none : (u : Page) → Adds u u []
+adds_none u =
+    let v = u.out.now in
+    let a = append-nil (vec_items v) in
+    let t = take_all (vec_capacity v) (vec_items v) (omega (arith, v.ok.0, v.ok.1)) in
+    record { same = refl; puts = record { items = cc; room = refl }; long = omega (arith, u.fits) }
 
 joined_append : {X : Type 0} (f : X → List ℕ) (xs ys : List X) → flat_map f (xs ++ ys) ≡ flat_map f xs ++ flat_map f ys
 joined_append f [] ys = refl
@@ -39,10 +37,10 @@ pub fits_more : (on : Standing) (k : ℕ) → fits_below (k + 1) on ≡ fits_bel
 unfolding fits_below
 fits_more on k = let e : k + 1 ≡ suc k = omega arith in ap (λ (j : ℕ). fits_below j on) e
 
-pub wrote_fit : (u v w : Vec ℕ Global) (a b c : ℕ) (on : Standing) (k : ℕ) → Wrote u v a (flat_map fit_text (fits_below k on)) → Wrote v w b (flat_map fit_text (entry k (on k))) → c ≡ min (a + b) (2 ^ 64 - 1) → Wrote u w c (flat_map fit_text (fits_below (k + 1) on))
-wrote_fit u v w a b c on k p q e =
+pub adds_fit : (u v w : Page) (on : Standing) (k : ℕ) → Adds u v (flat_map fit_text (fits_below k on)) → Adds v w (flat_map fit_text (entry k (on k))) → Adds u w (flat_map fit_text (fits_below (k + 1) on))
+adds_fit u v w on k p q =
     let x : flat_map fit_text (fits_below k on) ++ flat_map fit_text (entry k (on k)) ≡ flat_map fit_text (fits_below (k + 1) on) = sym (joined_append fit_text (fits_below k on) (entry k (on k))) ∙ ap (flat_map fit_text) (sym (fits_more on k)) in
-    subst (Wrote u w c) x (wrote_more u v w a b c (flat_map fit_text (fits_below k on)) (flat_map fit_text (entry k (on k))) p q e)
+    subst (Adds u w) x (adds_more u v w (flat_map fit_text (fits_below k on)) (flat_map fit_text (entry k (on k))) p q)
 
 same_count : (k : ℕ) (o : Option (List ℕ)) → length (entry k o) ≡ length (option_to_list o)
 same_count k None = refl
@@ -54,26 +52,22 @@ unfolding fits_below below
 fits_count zero on = refl
 fits_count (suc k) on = omega (arith, fits_count k on, same_count k (on k), length-append (fits_below k on) (entry k (on k)), length-append (below k on) (option_to_list (on k)))
 
--- a fitting that stands, or none
-pub wrote_entry : (u v : Vec ℕ Global) (c n : ℕ) (ps : List ℕ) (o : Option (List ℕ)) → Some ps ≡ o → Puts u v (fit_text (record { number = n; places = ps })) → c ≡ held (length (fit_text (record { number = n; places = ps }))) → Wrote u v c (flat_map fit_text (entry n o))
-wrote_entry u v c n ps o e p l =
-    let t = fit_text (record { number = n; places = ps }) in
-    let w : Wrote u v c (t ++ []) = subst (Wrote u v c) (sym (append-nil t)) (record { puts = p; long = l }) in
-    subst (λ (x : Option (List ℕ)). Wrote u v c (flat_map fit_text (entry n x))) e w
-
-pub wrote_absent : (u : Vec ℕ Global) (n : ℕ) (o : Option (List ℕ)) → None ≡ o → Wrote u u 0 (flat_map fit_text (entry n o))
-wrote_absent u n o e = subst (λ (x : Option (List ℕ)). Wrote u u 0 (flat_map fit_text (entry n x))) e (wrote_none u)
-
-regroup : (p d r f t : List ℕ) → (((p ++ d) ++ r) ++ f) ++ t ≡ p ++ (d ++ (r ++ (f ++ t)))
-regroup p d r f t = simp append_assoc
+-- none stands
+pub adds_absent : (u : Page) (n : ℕ) (o : Option (List ℕ)) → None ≡ o → Adds u u (flat_map fit_text (entry n o))
+adds_absent u n o e = subst (λ (x : Option (List ℕ)). Adds u u (flat_map fit_text (entry n x))) e (adds_none u)
 
 -- five texts, one after another
-pub wrote_five : (u v w x y z : Vec ℕ Global) (a b c d e k l m n : ℕ) (p q r s t : List ℕ) → Wrote u v a p → Wrote v w b q → Wrote w x c r → Wrote x y d s → Wrote y z e t → k ≡ min (a + b) (2 ^ 64 - 1) → l ≡ min (k + c) (2 ^ 64 - 1) → m ≡ min (l + d) (2 ^ 64 - 1) → n ≡ min (m + e) (2 ^ 64 - 1) → Wrote u z n (p ++ (q ++ (r ++ (s ++ t))))
-wrote_five u v w x y z a b c d e k l m n p q r s t wp wq wr ws wt ek el em en =
-    subst (Wrote u z n) (regroup p q r s t)
-    (wrote_more u y z m e n (((p ++ q) ++ r) ++ s) t
-    (wrote_more u x y l d m ((p ++ q) ++ r) s
-    (wrote_more u w x k c l (p ++ q) r (wrote_more u v w a b k p q wp wq ek) wr el) ws em) wt en)
+pub adds_five : (u v w x y z : Page) (p q r s t : List ℕ) → Adds u v p → Adds v w q → Adds w x r → Adds x y s → Adds y z t → Adds u z (p ++ (q ++ (r ++ (s ++ t))))
+adds_five u v w x y z p q r s t a b c d e =
+    adds_more u v z p (q ++ (r ++ (s ++ t))) a (adds_more v w z q (r ++ (s ++ t)) b (adds_more w x z r (s ++ t) c (adds_more x y z s t d e)))
+
+-- one more of many texts
+pub adds_joined : {X : Type 0} (f : X → List ℕ) (u v w : Page) (xs : List X) (i : ℕ) (d : X) → i < length xs → Adds u v (flat_map f (take i xs)) → Adds v w (f (get_or xs i d)) → Adds u w (flat_map f (take (i + 1) xs))
+adds_joined f u v w xs i d l p q =
+    let j = flat_map_more f [] (take i xs) (get_or xs i d) in
+    let t = ap (flat_map f) (take_more xs i d l) in
+    let e : flat_map f (take i xs) ++ f (get_or xs i d) ≡ flat_map f (take (i + 1) xs) = cc in
+    subst (Adds u w) e (adds_more u v w (flat_map f (take i xs)) (f (get_or xs i d)) p q)
 
 -- a refusal takes away what was written
 pub taken_back : (u v w : Vec ℕ Global) (s : List ℕ) → Puts u v s → vec_items w ≡ take (vec_len u) (vec_items v) → vec_items w ≡ vec_items u

@@ -8,6 +8,7 @@ use Rattle.lines.specs.Said.{Said, Formed, Formless}
 use Rattle.ticket.specs.declared.due.Due.{Due}
 use Rattle.ticket.specs.declared.due.Due.TheVariants.{PlacesLine, DuctsLine, DuctLines, FittingLines}
 use Rattle.ticket.specs.declared.fault.TicketFault.{TicketFault}
+use Rattle.ticket.specs.declared.reading.Reading.{Reading}
 use Rattle.ticket.specs.Faults.{form, section}
 use Rattle.ticket.specs.Steps.{State, Step, opening, standing, step}
 
@@ -69,6 +70,19 @@ Tame PlacesLine = Unit {0}
 Tame DuctsLine = Unit {0}
 Tame (DuctLines left) = Unit {0}
 Tame (FittingLines left least) = least ≤ 64
+
+-- a reading holds what is read so far, and the same line is due
+pub record Stands (room : ℕ) (reading : Reading) (s : State) : Type 0 where
+  pub holds : Holds room reading.frame.now reading.job.now s
+  pub due : s.due ≡ reading.due
+  pub tame : Tame reading.due
+
+-- a reading stands at the same line, and reads into the same frame and job
+pub record Same (old new : Reading) : Type 0 where
+  pub at : new.at ≡ old.at
+  pub due : new.due ≡ old.due
+  pub frame : new.frame.ghost_name ≡ old.frame.ghost_name
+  pub job : new.job.ghost_name ≡ old.job.ghost_name
 
 -- what a line did: the step of its kind, and what frame and job hold then
 abbrev pub Took : ℕ → ℕ → State → Said → OpenFrame → Job → Result Due TicketFault → Type 0

@@ -1,4 +1,4 @@
-// What reading a ticket refuses with: the fault of the reader, the frame or the job, and the line.
+// What reading a ticket refuses with: the fault of the reader, the frame or the job as it is, and the line, in a case for each.
 use frame::fault::FrameFault;
 use job::fault::JobFault;
 use lines::fault::ReaderFault;

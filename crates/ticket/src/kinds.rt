@@ -1,112 +1,95 @@
 // What each kind of line does where it stands.
 ghost use Rattle.std.specs.Prelude.{◌≡◌, ℕ, ◌<◌, List};
-ghost use Rattle.frame.specs.declared.frame.OpenFrame.{OpenFrame as FrameNow};
-ghost use Rattle.job.specs.declared.job.Job.{Job as JobNow};
 ghost use Rattle.lines.specs.Said.{capped, Lists, places as said_places, ducts as said_ducts, duct as said_duct, fittings as said_fittings, fitting as said_fitting};
 ghost use Rattle.lines.specs.Text.{held};
-ghost use Rattle.ticket.specs.Runs.{Holds, Took, Tame};
+ghost use Rattle.ticket.specs.Runs.{Stands, Same, Took};
 ghost use Rattle.ticket.specs.Steps.{State};
 
-use crate::checks::{TOO_LONG, duct_fault, fitting_fault, limit, section};
+use crate::checks::{check_duct, check_fitting};
 use crate::due::Due;
 use crate::fault::TicketFault;
-use frame::frame::OpenFrame;
-use job::job::Job;
-use lines::line::Listed;
+use crate::reading::Reading;
+use lines::line::{ReadFitting, TOO_LONG};
 use ways::row::Row;
 
-// The number of places, for frame and job.
-pub fn places_line(
-    at: u64,
-    n: u32,
-    due: Due,
-    frame: &mut OpenFrame,
-    job: &mut Job,
-) -> Result<Due, TicketFault>
-    ensures { (room : ℕ) (s : State) (v : ℕ) → Holds room frame.old job.old s → s.due ≡ due → n ≡ capped v → Took room at s (said_places v) frame.new job.new result }
-{
-    let Due::PlacesLine = due else {
-        return Err(section(at));
-    };
-    if n >= TOO_LONG {
-        return Err(limit(at, 1));
-    }
-    match frame.begin(n) {
-        Ok(()) => {
-            job.begin(n);
-            Ok(Due::DuctsLine)
+impl Reading<'_> {
+    // The number of places, for frame and job.
+    pub fn places(&mut self, n: u32) -> Result<Due, TicketFault>
+        ensures took { (room : ℕ) (s : State) (v : ℕ) → Stands room self.old s → n ≡ capped v → Took room self.old.at s (said_places v) self.new.frame.now self.new.job.now result }
+        ensures same { Same self.old self.new }
+    {
+        let at = self.at;
+        let Due::PlacesLine = self.due else {
+            return Err(TicketFault::section(at));
+        };
+        if n >= TOO_LONG {
+            return Err(TicketFault::limit(at, 1));
         }
-        Err(fault) => Err(TicketFault::Frame { line: at, fault }),
+        self.frame
+            .begin(n)
+            .map_err(|fault| TicketFault::Frame { line: at, fault })?;
+        self.job.begin(n);
+        Ok(Due::DuctsLine)
     }
-}
 
-// The number of ducts.
-pub fn ducts_line(at: u64, m: u32, due: Due) -> Result<Due, TicketFault>
-    ensures { (room : ℕ) (frame : FrameNow) (job : JobNow) (s : State) (v : ℕ) → Holds room frame job s → s.due ≡ due → m ≡ capped v → Took room at s (said_ducts v) frame job result }
-{
-    let Due::DuctsLine = due else {
-        return Err(section(at));
-    };
-    if m > 16_384 {
-        return Err(limit(at, 1));
+    // The number of ducts.
+    pub fn ducts(&self, m: u32) -> Result<Due, TicketFault>
+        ensures { (room : ℕ) (s : State) (v : ℕ) → Stands room self.now s → m ≡ capped v → Took room self.now.at s (said_ducts v) self.now.frame.now self.now.job.now result }
+    {
+        let Due::DuctsLine = self.due else {
+            return Err(TicketFault::section(self.at));
+        };
+        if m > 16_384 {
+            return Err(TicketFault::limit(self.at, 1));
+        }
+        Ok(Due::DuctLines { left: m })
     }
-    Ok(Due::DuctLines { left: m })
-}
 
-// A duct, for the frame.
-pub fn duct_line(at: u64, row: Row, due: Due, frame: &mut OpenFrame) -> Result<Due, TicketFault>
-    ensures { (room : ℕ) (job : JobNow) (s : State) (a b l : ℕ) → Holds room frame.old job s → s.due ≡ due → row.first ≡ capped a → row.second ≡ capped b → row.length ≡ capped l → Took room at s (said_duct a b l) frame.new job result }
-{
-    let Due::DuctLines { left } = due else {
-        return Err(section(at));
-    };
-    match duct_fault(at, row, left) {
-        Some(fault) => Err(fault),
-        None => match frame.add(row) {
-            Ok(()) => Ok(Due::DuctLines { left: left - 1 }),
-            Err(fault) => Err(TicketFault::Frame { line: at, fault }),
-        },
+    // A duct, for the frame.
+    pub fn duct(&mut self, row: Row) -> Result<Due, TicketFault>
+        ensures took { (room : ℕ) (s : State) (a b l : ℕ) → Stands room self.old s → row.first ≡ capped a → row.second ≡ capped b → row.length ≡ capped l → Took room self.old.at s (said_duct a b l) self.new.frame.now self.new.job.now result }
+        ensures same { Same self.old self.new }
+    {
+        let at = self.at;
+        let Due::DuctLines { left } = self.due else {
+            return Err(TicketFault::section(at));
+        };
+        check_duct(at, row, left)?;
+        self.frame
+            .add(row)
+            .map_err(|fault| TicketFault::Frame { line: at, fault })?;
+        Ok(Due::DuctLines { left: left - 1 })
     }
-}
 
-// The number of fittings.
-pub fn fittings_line(at: u64, k: u32, due: Due) -> Result<Due, TicketFault>
-    ensures { (room : ℕ) (frame : FrameNow) (job : JobNow) (s : State) (v : ℕ) → Holds room frame job s → s.due ≡ due → k ≡ capped v → Took room at s (said_fittings v) frame job result }
-{
-    let Due::DuctLines { left } = due else {
-        return Err(section(at));
-    };
-    if left > 0 {
-        return Err(section(at));
+    // The number of fittings.
+    pub fn fittings(&self, k: u32) -> Result<Due, TicketFault>
+        ensures { (room : ℕ) (s : State) (v : ℕ) → Stands room self.now s → k ≡ capped v → Took room self.now.at s (said_fittings v) self.now.frame.now self.now.job.now result }
+    {
+        let Due::DuctLines { left: 0 } = self.due else {
+            return Err(TicketFault::section(self.at));
+        };
+        if k > 64 {
+            return Err(TicketFault::limit(self.at, 1));
+        }
+        Ok(Due::FittingLines { left: k, least: 0 })
     }
-    if k > 64 {
-        return Err(limit(at, 1));
-    }
-    Ok(Due::FittingLines { left: k, least: 0 })
-}
 
-// A fitting, for the job: the first 17 places tell as much as all of them.
-pub fn fitting_line(
-    at: u64,
-    number: u32,
-    count: u64,
-    places: &Listed,
-    due: Due,
-    job: &mut Job,
-) -> Result<Due, TicketFault>
-    ensures { (room : ℕ) (frame : FrameNow) (s : State) (f c : ℕ) (ps : List ℕ) → Holds room frame job.old s → s.due ≡ due → Tame due → number ≡ capped f → count ≡ held c → Lists places.now ps → Took room at s (said_fitting f c ps) frame job.new result }
-{
-    let Due::FittingLines { left, least } = due else {
-        return Err(section(at));
-    };
-    match fitting_fault(at, number, count, places, left, least) {
-        Some(fault) => Err(fault),
-        None => match job.add(number, &places.front[0..places.count.min(17)]) {
-            Ok(()) => Ok(Due::FittingLines {
-                left: left - 1,
-                least: number + 1,
-            }),
-            Err(fault) => Err(TicketFault::Job { line: at, fault }),
-        },
+    // A fitting, for the job: the first 17 places tell as much as all of them.
+    pub fn fitting(&mut self, fitting: &ReadFitting) -> Result<Due, TicketFault>
+        ensures took { (room : ℕ) (s : State) (f c : ℕ) (ps : List ℕ) → Stands room self.old s → fitting.now.number ≡ capped f → fitting.now.count ≡ held c → Lists fitting.now.places ps → Took room self.old.at s (said_fitting f c ps) self.new.frame.now self.new.job.now result }
+        ensures same { Same self.old self.new }
+    {
+        let at = self.at;
+        let Due::FittingLines { left, least } = self.due else {
+            return Err(TicketFault::section(at));
+        };
+        check_fitting(at, fitting, left, least)?;
+        self.job
+            .add(fitting.number, fitting.places.front.as_slice())
+            .map_err(|fault| TicketFault::Job { line: at, fault })?;
+        Ok(Due::FittingLines {
+            left: left - 1,
+            least: fitting.number + 1,
+        })
     }
 }

@@ -1,21 +1,18 @@
 // A ticket's bytes into a frame and the fittings of a job.
 ghost use Rattle.std.specs.Prelude.{◌≡◌, ℕ};
 ghost use Rattle.frame.specs.Of.{open_room};
-ghost use Rattle.ticket.specs.Runs.{Holds, Did, Tame, Answers, answer_of, closing};
+ghost use Rattle.ticket.specs.Runs.{Stands, Same, Did, Answers, answer_of, closing};
 ghost use Rattle.ticket.specs.Steps.{State};
 ghost use Rattle.ticket.specs.Tickets.{IsText, ReadsBack};
 
-use crate::checks::section;
 use crate::due::Due;
 use crate::fault::TicketFault;
-use crate::kinds::{duct_line, ducts_line, fitting_line, fittings_line, places_line};
+use crate::reading::Reading;
 use frame::frame::OpenFrame;
 use job::job::Job;
 use lines::cut::split_line;
-use lines::fault::ReaderFault;
 use lines::line::Line;
 use lines::read::read_line;
-use ways::row::Row;
 
 // Empties the frame and the job, and reads a ticket into them. After a refusal they hold what the lines before it say.
 pub fn read(bytes: &[u8], frame: &mut OpenFrame, job: &mut Job) -> Result<(), TicketFault>
@@ -25,72 +22,49 @@ pub fn read(bytes: &[u8], frame: &mut OpenFrame, job: &mut Job) -> Result<(), Ti
 {
     frame.empty();
     job.begin(0);
-    let mut due = Due::PlacesLine;
-    let mut at = 1u64;
+    let mut reading = Reading {
+        at: 1,
+        due: Due::PlacesLine,
+        frame,
+        job,
+    };
     let mut rest = bytes;
+    // No iterator over the lines: the end is judged by the number and the rest that the last line leaves.
     while let Some((line, after)) = split_line(rest) {
-        match take_line(line, at, due, frame, job) {
-            Ok(next) => due = next,
-            Err(fault) => return Err(fault),
-        }
-        at += 1;
+        reading.due = reading.take(line)?;
+        reading.at += 1;
         rest = after;
     }
-    close(at, due, rest)
+    reading.close(rest)
 }
 
-// The answer where no line is left.
-fn close(at: u64, due: Due, rest: &[u8]) -> Result<(), TicketFault>
-    ensures { answer_of result ≡ closing at due rest.now }
-{
-    if rest.len() > 0 {
-        return Err(TicketFault::Reader {
-            line: at,
-            fault: ReaderFault::Form { line: at },
-        });
+impl Reading<'_> {
+    // The answer where no line is left.
+    fn close(&self, rest: &[u8]) -> Result<(), TicketFault>
+        ensures { answer_of result ≡ closing self.now.at self.now.due rest.now }
+    {
+        if !rest.is_empty() {
+            return Err(TicketFault::form(self.at));
+        }
+        match self.due {
+            Due::FittingLines { left: 0, .. } => Ok(()),
+            _ => Err(TicketFault::section(self.at)),
+        }
     }
-    match due {
-        Due::FittingLines { left: 0, least: _ } => Ok(()),
-        _ => Err(section(at)),
-    }
-}
 
-// Reads one line, and does what it says where this one is due.
-fn take_line(
-    text: &[u8],
-    at: u64,
-    due: Due,
-    frame: &mut OpenFrame,
-    job: &mut Job,
-) -> Result<Due, TicketFault>
-    ensures { (room : ℕ) (s : State) → Holds room frame.old job.old s → s.due ≡ due → Tame due → Did room at s text.now frame.new job.new result }
-{
-    let line = match read_line(text, at) {
-        Ok(line) => line,
-        Err(fault) => return Err(TicketFault::Reader { line: at, fault }),
-    };
-    match line {
-        Line::Places { n } => places_line(at, n, due, frame, job),
-        Line::Ducts { m } => ducts_line(at, m, due),
-        Line::Duct {
-            first,
-            second,
-            length,
-        } => duct_line(
-            at,
-            Row {
-                first,
-                second,
-                length,
-            },
-            due,
-            frame,
-        ),
-        Line::Fittings { k } => fittings_line(at, k, due),
-        Line::Fitting {
-            number,
-            count,
-            places,
-        } => fitting_line(at, number, count, &places, due, job),
+    // Reads one line, and does what it says where this one is due: which is due then.
+    fn take(&mut self, text: &[u8]) -> Result<Due, TicketFault>
+        ensures did { (room : ℕ) (s : State) → Stands room self.old s → Did room self.old.at s text.now self.new.frame.now self.new.job.now result }
+        ensures same { Same self.old self.new }
+    {
+        let at = self.at;
+        let line = read_line(text, at).map_err(|fault| TicketFault::Reader { line: at, fault })?;
+        match line {
+            Line::Places { n } => self.places(n),
+            Line::Ducts { m } => self.ducts(m),
+            Line::Duct(row) => self.duct(row),
+            Line::Fittings { k } => self.fittings(k),
+            Line::Fitting(fitting) => self.fitting(&fitting),
+        }
     }
 }

@@ -6,6 +6,7 @@ use crate::fault::TicketFault;
 use faults::layer::Layer;
 use faults::refusal::Refusal;
 
+// Three matches alike: the faults inside are of three types, and the check refuses a function that makes a `dyn` of one and hands it out.
 impl Refusal for TicketFault {
     ghost numbered = { number_of };
 
@@ -15,25 +16,25 @@ impl Refusal for TicketFault {
 
     fn number(&self) -> u32 {
         match self {
-            TicketFault::Reader { line: _, fault } => fault.number(),
-            TicketFault::Frame { line: _, fault } => fault.number(),
-            TicketFault::Job { line: _, fault } => fault.number(),
+            TicketFault::Reader { fault, .. } => fault.number(),
+            TicketFault::Frame { fault, .. } => fault.number(),
+            TicketFault::Job { fault, .. } => fault.number(),
         }
     }
 
     fn layer(&self) -> Layer {
         match self {
-            TicketFault::Reader { line: _, fault } => fault.layer(),
-            TicketFault::Frame { line: _, fault } => fault.layer(),
-            TicketFault::Job { line: _, fault } => fault.layer(),
+            TicketFault::Reader { fault, .. } => fault.layer(),
+            TicketFault::Frame { fault, .. } => fault.layer(),
+            TicketFault::Job { fault, .. } => fault.layer(),
         }
     }
 
     fn spot(&self) -> u64 {
         match self {
-            TicketFault::Reader { line: _, fault } => fault.spot(),
-            TicketFault::Frame { line: _, fault } => fault.spot(),
-            TicketFault::Job { line: _, fault } => fault.spot(),
+            TicketFault::Reader { fault, .. } => fault.spot(),
+            TicketFault::Frame { fault, .. } => fault.spot(),
+            TicketFault::Job { fault, .. } => fault.spot(),
         }
     }
 }
@@ -44,9 +45,9 @@ impl TicketFault {
         ensures { result ≡ line_of self.now }
     {
         match self {
-            TicketFault::Reader { line, fault: _ } => *line,
-            TicketFault::Frame { line, fault: _ } => *line,
-            TicketFault::Job { line, fault: _ } => *line,
+            TicketFault::Reader { line, .. }
+            | TicketFault::Frame { line, .. }
+            | TicketFault::Job { line, .. } => *line,
         }
     }
 }

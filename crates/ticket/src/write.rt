@@ -1,6 +1,7 @@
 // A frame and the fittings of a job into a ticket's bytes.
 ghost use Rattle.std.specs.Prelude.{◌≡◌, ◌-◌, ◌<◌, ◌++◌, length, is_ok, if◌then◌else◌, vec_len, vec_capacity};
 ghost use Rattle.std.specs.List.{flat_map};
+ghost use Rattle.lines.specs.Pages.{Adds};
 ghost use Rattle.frame.specs.Of.{places_of, rows_of};
 ghost use Rattle.frame.specs.Rows.{Sound};
 ghost use Rattle.job.specs.Held.{held as holding};
@@ -9,8 +10,8 @@ ghost use Rattle.ticket.specs.Tickets.{Wrote, duct_text, fit_text, entry, fits_o
 use frame::frame::ClosedFrame;
 use job::job::Job;
 use lines::fault::ReaderFault;
-use lines::said::Written;
-use lines::write::write_line;
+use lines::line::{Line, WrittenFitting};
+use lines::page::Page;
 use ways::row::Row;
 
 // Appends the ticket of the frame and the job, in the room that `out` has. A refusal appends nothing.
@@ -39,52 +40,40 @@ fn write_text(frame: &ClosedFrame, job: &Job, out: &mut Vec<u8>) -> u64
     ensures wrote { Wrote out.old out.new result (text_of frame.now job.now) }
     ensures sound { Sound (places_of frame.now) (rows_of frame.now) }
 {
-    let m = frame.len() as u32;
-    let places = write_line(out, Written::Places { n: frame.places() });
-    let ducts = write_line(out, Written::Ducts { m });
-    let rows = write_ducts(frame.rows(), out);
-    let fittings = write_line(out, Written::Fittings { k: job.count() });
-    let fits = write_fittings(job, out);
-    places
-        .saturating_add(ducts)
-        .saturating_add(rows)
-        .saturating_add(fittings)
-        .saturating_add(fits)
+    let mut page = Page::new(out);
+    page.line(Line::Places { n: frame.places() });
+    page.line(Line::Ducts {
+        m: frame.len() as u32,
+    });
+    write_ducts(frame.rows(), &mut page);
+    page.line(Line::Fittings { k: job.count() });
+    write_fittings(job, &mut page);
+    page.count()
 }
 
 // Appends the lines of the ducts.
-fn write_ducts(rows: &[Row], out: &mut Vec<u8>) -> u64
-    ensures { Wrote out.old out.new result (flat_map duct_text rows.now) }
+fn write_ducts(rows: &[Row], page: &mut Page)
+    ensures { Adds page.old page.new (flat_map duct_text rows.now) }
 {
-    let mut count = 0u64;
     for row in rows {
-        let line = Written::Duct {
-            first: row.first,
-            second: row.second,
-            length: row.length,
-        };
-        count = count.saturating_add(write_line(out, line));
+        page.line(Line::Duct(*row));
     }
-    count
 }
 
 // Appends the lines of the standing fittings.
-fn write_fittings(job: &Job, out: &mut Vec<u8>) -> u64
-    ensures { Wrote out.old out.new result (flat_map fit_text (fits_of job.now)) }
+fn write_fittings(job: &Job, page: &mut Page)
+    ensures { Adds page.old page.new (flat_map fit_text (fits_of job.now)) }
 {
-    let mut count = 0u64;
-    for f in 0..64 {
-        count = count.saturating_add(write_fitting(job, f, out));
+    for number in 0..64 {
+        write_fitting(job, number, page);
     }
-    count
 }
 
 // Appends the line of a fitting, if it stands.
-fn write_fitting(job: &Job, number: u32, out: &mut Vec<u8>) -> u64
-    ensures { Wrote out.old out.new result (flat_map fit_text (entry number (holding job.now number))) }
+fn write_fitting(job: &Job, number: u32, page: &mut Page)
+    ensures { Adds page.old page.new (flat_map fit_text (entry number (holding job.now number))) }
 {
-    match job.places_of(number) {
-        Some(places) => lines::write::write_fitting(out, number, places),
-        None => 0,
+    if let Some(places) = job.places_of(number) {
+        page.line(Line::Fitting(WrittenFitting { number, places }));
     }
 }
