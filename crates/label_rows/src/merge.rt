@@ -5,35 +5,34 @@ ghost use Rattle.hubs.specs.Merge.{merge, sooner};
 use hubs::entry::Entry;
 use hubs::meeting::Meeting;
 
-// The best so far, and one more behind it.
+// The best so far, and one more behind it. By the sum alone, so not by a derived order, which compares ranks too.
 fn kept(best: Option<Meeting>, m: Meeting) -> Option<Meeting>
     ensures { result ≡ sooner best (Some m) }
 {
     match best {
-        None => Some(m),
-        Some(k) => if k.sum <= m.sum { Some(k) } else { Some(m) },
+        Some(k) if k.sum <= m.sum => best,
+        _ => Some(m),
     }
 }
 
 // The least sum that two rows share, and the first hub that has it.
+#[tactic(auto, using(crate::proofs::Merges::ended))]
 pub fn merge_rows(xs: &[Entry], ys: &[Entry]) -> Option<Meeting>
     ensures { result ≡ merge xs.now ys.now }
 {
-    let mut i = 0;
-    let mut j = 0;
+    let mut left = xs;
+    let mut right = ys;
     let mut best = None;
-    while i < xs.len() && j < ys.len() {
-        let x = xs[i];
-        let y = ys[j];
+    while let ([x, later @ ..], [y, behind @ ..]) = (left, right) {
         if x.rank < y.rank {
-            i += 1;
+            left = later;
         } else if y.rank < x.rank {
-            j += 1;
+            right = behind;
         } else {
-            let sum = x.distance as u64 + y.distance as u64;
+            let sum = u64::from(x.distance) + u64::from(y.distance);
             best = kept(best, Meeting { rank: x.rank, sum });
-            i += 1;
-            j += 1;
+            left = later;
+            right = behind;
         }
     }
     best

@@ -1,6 +1,10 @@
 -- A row laid out by rank. Assumes nothing.
-use Rattle.std.proofs.Common.{◌≡◌, ℕ, zero, suc, ◌+◌, ◌-◌, ◌<◌, ◌≤◌, true, false, eqb, List, [], ◌∷◌, length, get_or, set, Some, None, Option, sym, refl, ap, ◌∙◌, subst, inl, inr, arith, get_or-set_other, get_or-set_same, eq-eqb, ne_eqb}
+use Rattle.std.proofs.Common.{◌≡◌, ℕ, zero, suc, ◌+◌, ◌<◌, ◌≤◌, Bool, true, false, eqb, leb, List, [], ◌∷◌, length, get_or, set, Some, None, Option, sym, refl, ap, ◌∙◌, subst, inl, inr, arith, get_or-set_other, get_or-set_same, eq-eqb, eqb-true, leb-true, leb-false}
 use native.Mathlib.Decide.{ℕ_discrete}
+use Rattle.std.specs.List.{list_any}
+use Rattle.std.proofs.lemmas.Bool.{both_ways, false_from_ne_true}
+use Rattle.std.proofs.lemmas.List.{get_or_default}
+use Rattle.std.proofs.lemmas.List.Folds.{Any-from_list_any, list_any_at}
 use Rattle.ways.specs.Options.{pick}
 use Rattle.ways.proofs.Metric.{same, not_both}
 use Rattle.hubs.specs.declared.entry.Entry.{Entry}
@@ -10,7 +14,7 @@ use Rattle.hubs.specs.Merge.{Merged, merge, sum_of, Less}
 use Rattle.hubs.proofs.Merging.{above_in, merge_finds}
 use Rattle.labels.specs.declared.record.Record.{Record}
 use Rattle.labels.specs.Table.{no_entry}
-use Rattle.labels.specs.State.{blank, laid_at, Upto, SameSearch, Laid, Tells}
+use Rattle.labels.specs.State.{blank, laid_at, Upto, SameSearch, Laid, tells_by}
 
 -- what is in a row stands at some position, and what stands in it is in it
 pub in_at : (e : Entry) (xs : List Entry) → In e xs → (j : ℕ) × (j < length xs) × (get_or xs j no_entry ≡ e)
@@ -55,16 +59,6 @@ pub record Laying (k : ℕ) (before : List Record) (ys : List Entry) (i : ℕ) (
   pub same : SameSearch before rs
   pub upto : Upto k rs
 
-laid_none : (k : ℕ) (rs : List Record) → Upto (k - 1) rs → 1 ≤ k → (r : ℕ) → laid_at k rs r ≡ None
-laid_none k rs u l r = rw (ne_eqb (get_or rs r blank).laid_round k (λ z. omega (arith, u.laid r))) refl
-
-pub laying_none : (k : ℕ) (rs : List Record) (ys : List Entry) → Upto (k - 1) rs → 1 ≤ k → Laying k rs ys 0 rs
-laying_none k rs ys u l = record {
-  laid = record { only = λ r b e. absurd (not_both (laid_none k rs u l r) e); every = λ j m. absurd (omega arith) };
-  same = record { round = λ v. refl; distance = λ v. refl; stage = λ v. refl };
-  upto = record { came = λ v. omega (arith, u.came v); laid = λ v. omega (arith, u.laid v) };
-}
-
 module _ (k : ℕ) (before : List Record) (ys : List Entry) (i : ℕ) (rs : List Record) (x : Record) (l : Laying k before ys i rs) (up : Rising ys) (m : i < length ys)
     (room : (get_or ys i no_entry).rank < length rs) (at-k : x.laid_round ≡ k) (at-d : x.laid ≡ (get_or ys i no_entry).distance)
     (a : x.round ≡ (get_or rs (get_or ys i no_entry).rank blank).round) (b : x.distance ≡ (get_or rs (get_or ys i no_entry).rank blank).distance) (c : x.stage ≡ (get_or rs (get_or ys i no_entry).rank blank).stage) where
@@ -96,8 +90,13 @@ module _ (k : ℕ) (before : List Record) (ys : List Entry) (i : ℕ) (rs : List
       every j n (yes z) = subst (λ (y : ℕ). laid_at k (set rs (get_or ys i no_entry).rank x) (get_or ys y no_entry).rank ≡ Some (get_or ys y no_entry).distance) (sym z) new
       every j n (no ne) = old (get_or ys j no_entry).rank (λ z. omega (arith, rising_at ys j i up (omega arith) m)) ∙ l.laid.every j (omega arith)
 
+-- the row and a row that is laid out tell a distance of d or less, or they do not
+abbrev pub Tells : Bool → ℕ → Option ℕ → Type 0
+Tells true d o = Less d o → ⊥
+Tells false d o = Less d o
+
 -- an entry of the row meets the one laid out at its rank, at d or less
-pub told : (k : ℕ) (rs : List Record) (xs ys : List Entry) (d i b : ℕ) → Rising xs → Rising ys → Laid k rs ys (length ys) → i < length xs → laid_at k rs (get_or xs i no_entry).rank ≡ Some b → (get_or xs i no_entry).distance + b ≤ d → Tells true d (sum_of (merge xs ys))
+told : (k : ℕ) (rs : List Record) (xs ys : List Entry) (d i b : ℕ) → Rising xs → Rising ys → Laid k rs ys (length ys) → i < length xs → laid_at k rs (get_or xs i no_entry).rank ≡ Some b → (get_or xs i no_entry).distance + b ≤ d → Tells true d (sum_of (merge xs ys))
 told k rs xs ys d i b p q l m e le = go (merge xs ys) (merge_finds xs ys p q)
   where
     w : (j : ℕ) × (j < length ys) × ((get_or ys j no_entry).rank ≡ (get_or xs i no_entry).rank) × ((get_or ys j no_entry).distance ≡ b)
@@ -111,7 +110,7 @@ told k rs xs ys d i b p q l m e le = go (merge xs ys) (merge_finds xs ys p q)
     go (Some a) n s = omega (arith, (n.1 (get_or xs i no_entry).rank ((get_or xs i no_entry).distance + b) shared).0)
 
 -- none does
-pub untold : (k : ℕ) (rs : List Record) (xs ys : List Entry) (d : ℕ) → Rising xs → Rising ys → Laid k rs ys (length ys) → ((i b : ℕ) → i < length xs → laid_at k rs (get_or xs i no_entry).rank ≡ Some b → d < (get_or xs i no_entry).distance + b) → Tells false d (sum_of (merge xs ys))
+untold : (k : ℕ) (rs : List Record) (xs ys : List Entry) (d : ℕ) → Rising xs → Rising ys → Laid k rs ys (length ys) → ((i b : ℕ) → i < length xs → laid_at k rs (get_or xs i no_entry).rank ≡ Some b → d < (get_or xs i no_entry).distance + b) → Tells false d (sum_of (merge xs ys))
 untold k rs xs ys d p q l none = go (merge xs ys) (merge_finds xs ys p q)
   where
     go : (o : Option Meeting) → Merged xs ys o → Less d (sum_of o)
@@ -124,9 +123,39 @@ untold k rs xs ys d p q l none = go (merge xs ys) (merge_finds xs ys p q)
         let e : laid_at k rs (get_or xs x.0 no_entry).rank ≡ Some (get_or ys y.0 no_entry).distance = ap (laid_at k rs) (sym ranks) ∙ l.every y.0 y.1 in
         omega (arith, none x.0 (get_or ys y.0 no_entry).distance x.1 e, sh.sum, ap (λ (z : Entry). z.distance) x.2, ap (λ (z : Entry). z.distance) y.2)
 
--- what a record of another round says of its rank, and one of this round
-pub laid_past : (k : ℕ) (rs : List Record) (r : ℕ) → ((get_or rs r blank).laid_round ≡ k → ⊥) → laid_at k rs r ≡ None
-laid_past k rs r ne = rw (ne_eqb (get_or rs r blank).laid_round k ne) refl
-
-pub laid_now : (k : ℕ) (rs : List Record) (r : ℕ) → (get_or rs r blank).laid_round ≡ k → laid_at k rs r ≡ Some (get_or rs r blank).laid
+-- what a record of this round says of its rank
+laid_now : (k : ℕ) (rs : List Record) (r : ℕ) → (get_or rs r blank).laid_round ≡ k → laid_at k rs r ≡ Some (get_or rs r blank).laid
 laid_now k rs r e = rw (eq-eqb (get_or rs r blank).laid_round k e) refl
+
+-- what the test of an entry says
+tells_true : (k d : ℕ) (x : Record) (e : Entry) → tells_by k d x e ≡ true → (x.laid_round ≡ k) × (e.distance + x.laid ≤ d)
+tells_true k d x e h = go (eqb x.laid_round k) refl h
+  where
+    go : (b : Bool) → eqb x.laid_round k ≡ b → pick b (leb (e.distance + x.laid) d) false ≡ true → (x.laid_round ≡ k) × (e.distance + x.laid ≤ d)
+    go true z t = (eqb-true x.laid_round k z, leb-true (e.distance + x.laid) d t)
+    go false z t = absurd (both_ways false refl t)
+
+tells_false : (k d b : ℕ) (rs : List Record) (e : Entry) → tells_by k d (get_or rs e.rank blank) e ≡ false → laid_at k rs e.rank ≡ Some b → d < e.distance + b
+tells_false k d b rs e h z = go (eqb (get_or rs e.rank blank).laid_round k) h z
+  where
+    go : (t : Bool) → pick t (leb (e.distance + (get_or rs e.rank blank).laid) d) false ≡ false → pick t (Some (get_or rs e.rank blank).laid) None ≡ Some b → d < e.distance + b
+    go true t s = omega (arith, same refl s, leb-false (e.distance + (get_or rs e.rank blank).laid) d t)
+    go false t s = absurd (not_both refl s)
+
+-- whether some entry of the row passes the test
+pub told_by : (k d : ℕ) (rs : List Record) (xs ys : List Entry) → Rising xs → Rising ys → Laid k rs ys (length ys) → Tells (list_any (λ e. tells_by k d (get_or rs e.rank blank) e) xs) d (sum_of (merge xs ys))
+told_by k d rs xs ys p q l = go (list_any test xs) refl
+  where
+    test : Entry → Bool
+    test e = tells_by k d (get_or rs e.rank blank) e
+
+    none : list_any test xs ≡ false → (i b : ℕ) → i < length xs → laid_at k rs (get_or xs i no_entry).rank ≡ Some b → d < (get_or xs i no_entry).distance + b
+    none z i b m s = tells_false k d b rs (get_or xs i no_entry) (false_from_ne_true (test (get_or xs i no_entry)) (λ t. both_ways (list_any test xs) z (list_any_at test xs i no_entry m t))) s
+
+    go : (b : Bool) → list_any test xs ≡ b → Tells b d (sum_of (merge xs ys))
+    go false z = untold k rs xs ys d p q l (none z)
+    go true z =
+        let a = Any-from_list_any test xs z in
+        let t = tells_true k d (get_or rs a.1.rank blank) a.1 a.4 in
+        let is : get_or xs a.0 no_entry ≡ a.1 = get_or_default xs a.0 no_entry a.1 a.2 ∙ a.3 in
+        told k rs xs ys d a.0 (get_or rs a.1.rank blank).laid p q l a.2 (ap (λ (e : Entry). laid_at k rs e.rank) is ∙ laid_now k rs a.1.rank t.0) (omega (arith, ap (λ (e : Entry). e.distance) is, t.1))

@@ -6,5 +6,4 @@ pub mod Orders
 pub mod Pruning
 pub mod Sweeps
 pub mod Tables
-pub mod Verdicts
 pub mod Visits

@@ -1,13 +1,14 @@
 -- The loop of a pruned search. Assumes nothing.
-use Rattle.std.proofs.Common.{◌≡◌, ℕ, ◌+◌, ◌*◌, ◌<◌, ◌≤◌, Bool, true, false, cond, eqb, ltb, leb, ◌⊎◌, List, [], ◌∷◌, length, get_or, set, Some, None, Option, sym, refl, ap, ◌∙◌, subst, inl, inr, arith, eq-eqb, ne_eqb}
+use Rattle.std.proofs.Common.{◌≡◌, ℕ, ◌+◌, ◌*◌, ◌<◌, ◌≤◌, Bool, true, false, cond, eqb, ltb, leb, ◌⊎◌, List, [], ◌∷◌, length, All, get_or, set, Some, None, Option, Result, sym, refl, ap, ◌∙◌, subst, inl, inr, arith, eq-eqb, ne_eqb}
 use native.Mathlib.Decide.{ℕ_discrete, dec_le}
 use Rattle.std.specs.List.{AllByRecursion}
 use Rattle.std.specs.List.Sorted.{IsPermutation}
 use Rattle.std.proofs.ByRecursion.{All-weaker}
-use Rattle.std.proofs.lemmas.List.{get_or_past}
+use Rattle.std.proofs.lemmas.List.{get_or_default, get_or_past}
 use Rattle.std.proofs.lemmas.Bool.{ltb-true, eqb-true, both_ways}
 use Rattle.heap.specs.declared.search.SearchEntry.{SearchEntry}
-use Rattle.heap.specs.Order.{earlier}
+use Rattle.heap.specs.Bag.{Popped}
+use Rattle.heap.specs.Order.{earlier, Heaped}
 use Rattle.heap.specs.Entries.{sooner}
 use Rattle.search.specs.State.{left}
 use Rattle.search.proofs.Counts.{left_settled, left_all}
@@ -23,11 +24,12 @@ use Rattle.hubs.specs.Labels.{place, In}
 use Rattle.hubs.specs.Search.{said, Written}
 use Rattle.hubs.proofs.Hubs.{place_in}
 use Rattle.hubs.proofs.Searching.{search_grows}
+use Rattle.labels.specs.declared.fault.LabelsFault.{LabelsFault}
 use Rattle.labels.specs.declared.record.Record.{Record}
 use Rattle.labels.specs.Table.{no_entry, row_in, Fits, Behind}
 use Rattle.labels.specs.State.{blank, is_hub, length_in, settled_in, hub_in, known, done, got, first_record, Upto, SameSearch, Laid}
 use Rattle.labels.specs.Pruning.{Due, Pruning}
-use Rattle.labels.specs.Rounds.{Ready, Searching, Settles, Adds, Visiting, Advanced}
+use Rattle.labels.specs.Rounds.{Ready, Searching, Settles, Adds, Visiting, Visited, Advanced}
 use Rattle.labels.proofs.Counts.{left_has, left_most}
 use Rattle.labels.proofs.Layouts.{at_in, upto_set, field_kept}
 use Rattle.labels.proofs.Marks.{at_new, at_other}
@@ -35,8 +37,8 @@ use Rattle.labels.proofs.Pruning as theory
 use Rattle.labels.proofs.Visits.{laid_keep, row_was}
 
 -- the ranks of a row are below n
-pub ranks_at : (n : ℕ) (xs : List Entry) → ((e : Entry) → In e xs → e.rank < n) → (i : ℕ) → i < length xs → (get_or xs i no_entry).rank < n
-ranks_at n xs h i l = h (get_or xs i no_entry) (at_in xs i l)
+pub ranks_at : (n : ℕ) (xs : List Entry) → ((e : Entry) → In e xs → e.rank < n) → All (λ e. e.rank < n) xs
+ranks_at n xs h i d l = subst (λ (e : Entry). e.rank < n) (get_or_default xs i no_entry d l) (h (get_or xs i no_entry) (at_in xs i l))
 
 -- what the loop keeps true
 pub record Sweep (n : ℕ) (ds : List Row) (order : List ℕ) (w r : ℕ) (row : ℕ → List Entry) (cap : ℕ) (counts : List ℕ) (entries : List Entry) (rs : List Record) (q : List SearchEntry) : Type 0 where
@@ -49,7 +51,7 @@ pub record Sweep (n : ℕ) (ds : List Row) (order : List ℕ) (w r : ℕ) (row :
 module _ (n : ℕ) (ds : List Row) (order : List ℕ) (w r : ℕ) (counts : List ℕ) (entries : List Entry) (before rs : List Record) (q : List SearchEntry) (cap : ℕ)
     (ready : Ready n ds order r (row_in w counts entries)) (size : length rs ≡ n) (older : Upto r before) (same-as : SameSearch before rs) (upto : Upto (r + 1) rs)
     (laid : Laid (r + 1) rs (row_in w counts entries (place order r)) (length (row_in w counts entries (place order r)))) (fits : Fits n w counts entries) (behind : Behind n w counts entries)
-    (bag : IsPermutation (record { distance = 0; place = place order r } ∷ []) q) (one : length q ≡ 1) (enough : 2 * length ds < cap) where
+    (bag : IsPermutation (record { distance = 0; place = place order r } ∷ []) q) (one : length q ≤ 1) (enough : 2 * length ds < cap) where
   s : ℕ
   s = place order r
 
@@ -116,15 +118,41 @@ nearer a b p q h = go (ltb a b) refl (eqb a b) refl (leb p q) h
     go false e true f r k = omega (arith, eqb-true a b f)
     go false e false f r k = absurd (both_ways false refl k)
 
--- the least entry is taken out
-module _ (n : ℕ) (ds : List Row) (order : List ℕ) (w r : ℕ) (row : ℕ → List Entry) (cap : ℕ) (counts : List ℕ) (entries : List Entry) (rs : List Record) (q q' : List SearchEntry) (e : SearchEntry)
-    (sweep : Sweep n ds order w r row cap counts entries rs q) (ready : Ready n ds order r row) (few : n ≤ 4096) (size : length rs ≡ n)
-    (bag : IsPermutation q (e ∷ q')) (before : AllByRecursion (λ y. sooner e y ≡ true) q) (fewer : length q' + 1 ≡ length q) where
+-- whether the round has settled v, by another name of its number
+pub at_round : {j k : ℕ} {b : Bool} (rs : List Record) (v : ℕ) → j ≡ k → b ≡ done j rs v → done k rs v ≡ b
+at_round {b = b} rs v z h = subst (λ (y : ℕ). done y rs v ≡ b) z (sym h)
+
+-- the entry e is taken out of q, which leaves q'
+pub record Turn (n : ℕ) (ds : List Row) (order : List ℕ) (w r : ℕ) (row : ℕ → List Entry) (cap : ℕ) (counts : List ℕ) (entries : List Entry) (rs : List Record) (q q' : List SearchEntry) (e : SearchEntry) : Type 0 where
+  pub sweep : Sweep n ds order w r row cap counts entries rs q
+  pub ready : Ready n ds order r row
+  pub few : n ≤ 4096
+  pub size : length rs ≡ n
+  pub bag : IsPermutation q (e ∷ q')
+  pub before : AllByRecursion (λ y. sooner e y ≡ true) q
+  pub fewer : length q' + 1 ≡ length q
+
+pub turn : {n : ℕ} {ds : List Row} {order : List ℕ} {w r : ℕ} {row : ℕ → List Entry} {cap : ℕ} {counts : List ℕ} {entries : List Entry} {rs : List Record} {q q' : List SearchEntry} {e : SearchEntry} → Sweep n ds order w r row cap counts entries rs q → Ready n ds order r row → n ≤ 4096 → length rs ≡ n → Popped sooner e q q' → Heaped sooner q → Turn n ds order w r row cap counts entries rs q q' e
+turn sweep ready few size took heaped = record { sweep = sweep; ready = ready; few = few; size = size; bag = took.shuffled; before = took.first heaped; fewer = took.shorter }
+
+module _ {n : ℕ} {ds : List Row} {order : List ℕ} {w r : ℕ} {row : ℕ → List Entry} {cap : ℕ} {counts : List ℕ} {entries : List Entry} {rs : List Record} {q q' : List SearchEntry} {e : SearchEntry} (t : Turn n ds order w r row cap counts entries rs q q' e) where
+  abbrev sweep : Sweep n ds order w r row cap counts entries rs q
+  sweep = t.sweep
+
+  abbrev ready : Ready n ds order r row
+  ready = t.ready
+
+  abbrev size : length rs ≡ n
+  size = t.size
+
+  abbrev bag : IsPermutation q (e ∷ q')
+  bag = t.bag
+
   k : ℕ
   k = r + 1
 
   first : AllByRecursion (λ y. e.distance ≤ y.distance) q
-  first = All-weaker (λ y. sooner e y ≡ true) (λ y. e.distance ≤ y.distance) (λ y h. nearer e.distance y.distance e.place y.place h) q before
+  first = All-weaker (λ y. sooner e y ≡ true) (λ y. e.distance ≤ y.distance) (λ y h. nearer e.distance y.distance e.place y.place h) q t.before
 
   p : Pruning ds (Due ds (got (r + 1) rs)) (said order row r) (place order r) sweep.floor (known (r + 1) rs) (done (r + 1) rs) (got (r + 1) rs) q
   p = sweep.searching.pruning
@@ -156,7 +184,7 @@ module _ (n : ℕ) (ds : List Row) (order : List ℕ) (w r : ℕ) (row : ℕ →
   }
 
   module _ (waiting : done (r + 1) rs e.place ≡ false) where
-    pub visiting : (arcs : List Arc) → Neighbours ds e.place arcs → Visiting n ds order w r row e arcs counts entries rs q q'
+    visiting : (arcs : List Arc) → Neighbours ds e.place arcs → Visiting n ds order w r row e arcs counts entries rs q q'
     visiting arcs nb = record { ready = ready; arcs_are = nb; bag = bag; first = first; floor = sweep.floor; searching = sweep.searching; waiting = waiting }
 
     -- its length is that of so few ducts
@@ -180,13 +208,23 @@ module _ (n : ℕ) (ds : List Row) (order : List ℕ) (w r : ℕ) (row : ℕ →
     pub room_now : (arcs : List Arc) → Neighbours ds e.place arcs → length q' + length arcs ≤ cap
     room_now arcs nb = omega (arith, sweep.room, nb.count, left_has (degree ds) (done (r + 1) rs) n e.place in_place waiting)
 
-    pub ranks_now : (i : ℕ) → i < length (row_in w counts entries e.place) → (get_or (row_in w counts entries e.place) i no_entry).rank < n
-    ranks_now = ranks_at n (row_in w counts entries e.place) (λ g i. omega (arith, ready.inside, (ready.exact.only e.place g in_place (subst (In g) same_row i)).0))
+    pub ranks_now : (v : ℕ) → v ≡ w → All (λ g. g.rank < length rs) (row_in v counts entries e.place)
+    ranks_now v z = subst (λ (u : ℕ). All (λ g. g.rank < length rs) (row_in u counts entries e.place)) (sym z) (subst (λ (m : ℕ). All (λ g. g.rank < m) (row_in w counts entries e.place)) (sym size) ranks)
       where
         same_row : row_in w counts entries e.place ≡ row e.place
         same_row = row_was n ds order w r row e counts entries rs q q' sweep.floor sweep.searching bag first waiting in_place
 
-    module _ (arcs : List Arc) (nb : Neighbours ds e.place arcs) (counts' : List ℕ) (entries' : List Entry) (rs' : List Record) (q'' : List SearchEntry)
+        ranks : All (λ g. g.rank < n) (row_in w counts entries e.place)
+        ranks = ranks_at n (row_in w counts entries e.place) (λ g i. omega (arith, ready.inside, (ready.exact.only e.place g in_place (subst (In g) same_row i)).0))
+
+    -- the place was visited, in memory of the same size
+    pub visited : (v : ℕ) → v ≡ w → (arcs : List Arc) → Neighbours ds e.place arcs → (counts' : List ℕ) (entries' : List Entry) (rs' : List Record) (q'' : List SearchEntry) (result : Result (Unit {0}) LabelsFault)
+        → (Visiting (length counts) ds order v r row e arcs counts entries rs q q' → Visited (length counts) ds order v r row e rs counts' entries' rs' q'' result) → Visited n ds order w r row e rs counts' entries' rs' q'' result
+    visited v z arcs nb counts' entries' rs' q'' result f =
+        subst (λ (m : ℕ). Visiting m ds order w r row e arcs counts entries rs q q' → Visited m ds order w r row e rs counts' entries' rs' q'' result) sweep.searching.fits.counted
+        (subst (λ (u : ℕ). Visiting (length counts) ds order u r row e arcs counts entries rs q q' → Visited (length counts) ds order u r row e rs counts' entries' rs' q'' result) z f) (visiting arcs nb)
+
+    module _ {arcs : List Arc} (nb : Neighbours ds e.place arcs) {counts' : List ℕ} {entries' : List Entry} {rs' : List Record} {q'' : List SearchEntry}
         (next : Searching n ds order w r row e.distance counts' entries' rs' q'') (settles : Settles (r + 1) e.place rs rs') (adds : Adds (r + 1) e.place e.distance rs rs') (longer : length q'' ≤ length q' + length arcs) where
       fewer_left : left (degree ds) (done (r + 1) rs') n + degree ds e.place ≡ left (degree ds) (done (r + 1) rs) n
       fewer_left = left_settled (degree ds) (done (r + 1) rs) (done (r + 1) rs') n e.place in_place waiting settles.0 settles.1
@@ -195,7 +233,7 @@ module _ (n : ℕ) (ds : List Row) (order : List ℕ) (w r : ℕ) (row : ℕ →
       one_less = left_settled (λ _. 1) (done (r + 1) rs) (done (r + 1) rs') n e.place in_place waiting settles.0 settles.1
 
       pub sweep_less : length q'' + left (degree ds) (done (r + 1) rs') n < length q + left (degree ds) (done (r + 1) rs) n
-      sweep_less = omega (arith, fewer_left, nb.count)
+      sweep_less = omega (arith, fewer_left, nb.count, t.fewer)
 
       pub sweep_goes_on : Sweep n ds order w r row cap counts' entries' rs' q''
       sweep_goes_on = record {
@@ -210,8 +248,8 @@ module _ (n : ℕ) (ds : List Row) (order : List ℕ) (w r : ℕ) (row : ℕ →
           which v d (inr (z, y)) = omega (arith, bounded, one_less)
 
 -- nothing waits: the rows hold the hubs of one rank more
-pub advanced : (n : ℕ) (ds : List Row) (order : List ℕ) (w r : ℕ) (row : ℕ → List Entry) (cap : ℕ) (counts : List ℕ) (entries : List Entry) (rs : List Record) (q : List SearchEntry) → Sweep n ds order w r row cap counts entries rs q → Ready n ds order r row → q ≡ [] → Advanced n ds order w r counts entries rs
-advanced n ds order w r row cap counts entries rs q sweep ready none =
+pub advanced : {n : ℕ} {ds : List Row} {order : List ℕ} {w r : ℕ} {row : ℕ → List Entry} {cap : ℕ} {counts : List ℕ} {entries : List Entry} {rs : List Record} {q : List SearchEntry} → Sweep n ds order w r row cap counts entries rs q → Ready n ds order r row → q ≡ [] → Advanced n ds order w r counts entries rs
+advanced {n} {ds} {order} {w} {r} {row} {cap} {counts} {entries} {rs} {q} sweep ready none =
     let is : place order r < n = place_in n order ready.ordered r ready.inside in
     let p : Pruning ds (Due ds (got (r + 1) rs)) (said order row r) (place order r) sweep.floor (known (r + 1) rs) (done (r + 1) rs) (got (r + 1) rs) [] = subst (Pruning ds (Due ds (got (r + 1) rs)) (said order row r) (place order r) sweep.floor (known (r + 1) rs) (done (r + 1) rs) (got (r + 1) rs)) none sweep.searching.pruning in
     let done' = theory.finished n ds order row r sweep.floor (known (r + 1) rs) (done (r + 1) rs) (got (r + 1) rs) ready.lawful is p in

@@ -3,27 +3,21 @@ use Rattle.std.proofs.Common.{◌≡◌, ℕ, ◌+◌, ◌-◌, ◌*◌, ◌<◌
 use native.Mathlib.Decide.{ℕ_discrete, dec_lt}
 use Rattle.std.proofs.lemmas.List.{length-take-le, take-set-le, drop-set-lt, drop-set-add, take_more_set}
 use Rattle.hubs.specs.declared.entry.Entry.{Entry}
+use Rattle.labels.specs.declared.searching.Search.{Search}
+use Rattle.labels.specs.declared.table.Rows.{Rows}
+use Rattle.labels.specs.Memory.{SameMemory, SameRoom, SameRound}
 use Rattle.labels.specs.Table.{no_entry, count_of, row_in, Fits, Behind, Longer}
 
 -- the row of v ends before that of u begins, where v comes first
-pub apart : (v u w : ℕ) → v < u → v * w + w ≤ u * w
+apart : (v u w : ℕ) → v < u → v * w + w ≤ u * w
 apart v u w l =
     let more : v + 1 ≤ u = omega arith in
     let same : w ≤ w = omega arith in
     omega (arith, mul-le-mul more same, add-mul v 1 w, one-mul w)
 
 -- so many of its entries are within the memory
-pub inside : (n w v c : ℕ) → v < n → c ≤ w → v * w + c ≤ n * w
+inside : (n w v c : ℕ) → v < n → c ≤ w → v * w + c ≤ n * w
 inside n w v c l k = omega (arith, apart v n w l)
-
-pub few_entries : (n w : ℕ) → n ≤ 4096 → w ≤ 4096 → n * w ≤ 16777216
-few_entries n w l k = mul-le-mul l k
-
-pub cut : (w : ℕ) (counts : List ℕ) (entries : List Entry) (v start end : ℕ) → start ≡ v * w → end ≡ start + count_of counts v → take (end - start) (drop start entries) ≡ row_in w counts entries v
-unfolding row_in
-cut w counts entries v start end s e =
-    let c : end - start ≡ count_of counts v = omega arith in
-    ap (λ (k : ℕ). take k (drop start entries)) c ∙ ap (λ (k : ℕ). take (count_of counts v) (drop k entries)) s
 
 pub row_length : (n w v : ℕ) (counts : List ℕ) (entries : List Entry) → Fits n w counts entries → v < n → length (row_in w counts entries v) ≡ count_of counts v
 unfolding row_in
@@ -91,3 +85,15 @@ module _ (n w v : ℕ) (e : Entry) (counts : List ℕ) (entries : List Entry) (c
       go : Dec (u ≡ v) → get_or entries' (u * w + i) no_entry ≡ no_entry
       go (yes z) = free (λ y. let a : count_of counts' u ≡ count_of counts v + 1 = ap (count_of counts') z ∙ count_new in let m : u * w ≡ v * w = ap (λ (k : ℕ). k * w) z in omega arith) (let a : count_of counts' u ≡ count_of counts v + 1 = ap (count_of counts') z ∙ count_new in let m : count_of counts u ≡ count_of counts v = ap (count_of counts) z in omega arith)
       go (no ne) = free (side ne (dec_lt u v)) (omega (arith, count_other u ne))
+
+-- the same memory after two steps
+pub same_on : {a b c : Rows} → SameMemory a b → SameMemory b c → SameMemory a c
+same_on x y = record { width = y.width ∙ x.width; entries = y.entries ∙ x.entries; counts = y.counts ∙ x.counts }
+
+-- the same room after two steps
+pub room_on : {a b c : Search} → SameRoom a b → SameRoom b c → SameRoom a c
+room_on x y = record { records = y.records ∙ x.records; queue = y.queue ∙ x.queue }
+
+-- the same round after two steps
+pub round_on : {a b c : Search} → SameRound a b → SameRound b c → SameRound a c
+round_on x y = record { round = y.round ∙ x.round; room = room_on x.room y.room }

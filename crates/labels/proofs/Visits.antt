@@ -1,7 +1,7 @@
 -- One place of a pruned search. Assumes nothing.
 use Rattle.std.proofs.Common.{◌≡◌, ℕ, ◌+◌, ◌<◌, ◌≤◌, Bool, true, false, eqb, ◌⊎◌, List, [], ◌∷◌, ◌++◌, length, get_or, set, Some, None, Option, sym, refl, ap, ◌∙◌, subst, inl, inr, arith}
 use native.Mathlib.Decide.{ℕ_discrete}
-use Rattle.std.specs.List.{AllByRecursion}
+use Rattle.std.specs.List.{AllByRecursion, list_any}
 use Rattle.std.specs.List.Sorted.{IsPermutation}
 use Rattle.heap.specs.declared.search.SearchEntry.{SearchEntry}
 use Rattle.frame.specs.declared.arc.Arc.{Arc}
@@ -17,11 +17,11 @@ use Rattle.labels.specs.declared.record.Record.{Record}
 use Rattle.labels.specs.declared.record.Stage.{Stage}
 use Rattle.labels.specs.declared.record.Stage.TheVariants.{Cut, Hub as AtHub}
 use Rattle.labels.specs.Table.{no_entry, count_of, row_in, Longer}
-use Rattle.labels.specs.State.{blank, past, length_in, settled_in, hub_in, known, done, got, laid_at, staged, Upto, Laid, Tells}
+use Rattle.labels.specs.State.{blank, past, length_in, settled_in, hub_in, known, done, got, laid_at, staged, tells_by, Upto, Laid}
 use Rattle.labels.specs.Steps.{Steady, Chosen, Followed}
 use Rattle.labels.specs.Pruning.{Due, DueBut, Pruning}
 use Rattle.labels.specs.Rounds.{Searching, Settles, Adds, Visiting}
-use Rattle.labels.proofs.Layouts.{upto_set, field_kept}
+use Rattle.labels.proofs.Layouts.{Tells, upto_set, field_kept, told_by}
 use Rattle.labels.proofs.Marks.{at_new, at_other}
 use Rattle.labels.proofs.Pruning as theory
 use Rattle.labels.proofs.Tables.{row_length, fits_more, row_new, row_other, behind_more}
@@ -46,7 +46,7 @@ round_is k d x e = go (eqb x.round k) refl e
     go true i j = refl
     go false i j = absurd (not_both refl j)
 
-module _ (n : ℕ) (ds : List Row) (order : List ℕ) (w r : ℕ) (row : ℕ → List Entry) (e : SearchEntry) (arcs : List Arc) (counts : List ℕ) (entries : List Entry) (rs : List Record) (q q' : List SearchEntry)
+module _ {n : ℕ} {ds : List Row} {order : List ℕ} {w r : ℕ} {row : ℕ → List Entry} {e : SearchEntry} {arcs : List Arc} {counts : List ℕ} {entries : List Entry} {rs : List Record} {q q' : List SearchEntry}
     (s : Visiting n ds order w r row e arcs counts entries rs q q') (size : length rs ≡ n) (iv : e.place < n) where
   abbrev k : ℕ
   k = r + 1
@@ -95,19 +95,20 @@ module _ (n : ℕ) (ds : List Row) (order : List ℕ) (w r : ℕ) (row : ℕ →
     now_upto : Upto (r + 1) (set rs e.place (staged (get_or rs e.place blank) t))
     now_upto = upto_set k rs e.place (staged (get_or rs e.place blank) t) at s.searching.upto (s.searching.upto.came e.place) (s.searching.upto.laid e.place)
 
-    pub settles : Settles (r + 1) e.place rs (set rs e.place (staged (get_or rs e.place blank) t))
+    settles : Settles (r + 1) e.place rs (set rs e.place (staged (get_or rs e.place blank) t))
     settles = (now_done, other_done)
 
   -- what the test of its row says
-  pub told_of : (b : Bool) (xs : List Entry) → xs ≡ row_in w counts entries e.place → ((ys : List Entry) → Rising xs → Rising ys → Laid (r + 1) rs ys (length ys) → Tells b e.distance (sum_of (merge xs ys))) → Tells b e.distance (sum_of (merge (row e.place) (row (place order r))))
-  told_of b xs z h =
+  pub told_of : (j : ℕ) → j ≡ r + 1 → (b : Bool) (xs : List Entry) → xs ≡ row_in w counts entries e.place → b ≡ list_any (λ g. tells_by j e.distance (get_or rs g.rank blank) g) xs → Tells b e.distance (sum_of (merge (row e.place) (row (place order r))))
+  told_of j same-k b xs z h' =
+      let h : b ≡ list_any (λ (g : Entry). tells_by (r + 1) e.distance (get_or rs g.rank blank) g) xs = subst (λ (y : ℕ). b ≡ list_any (λ (g : Entry). tells_by y e.distance (get_or rs g.rank blank) g) xs) same-k h' in
       let is : xs ≡ row e.place = z ∙ row_is in
       let up : Rising xs = subst Rising (sym is) (s.ready.exact.rising e.place iv) in
       let source : place order r < n = place_in n order s.ready.ordered r s.ready.inside in
-      subst (λ (zs : List Entry). Tells b e.distance (sum_of (merge zs (row (place order r))))) is (h (row (place order r)) up (s.ready.exact.rising (place order r) source) s.searching.laid)
+      subst (λ (zs : List Entry). Tells b e.distance (sum_of (merge zs (row (place order r))))) is (subst (λ (t : Bool). Tells t e.distance (sum_of (merge xs (row (place order r))))) (sym h) (told_by (r + 1) e.distance rs xs (row (place order r)) up (s.ready.exact.rising (place order r) source) s.searching.laid))
 
   -- the rows tell its distance: it is cut off
-  pub visit_cut : Tells true e.distance (sum_of (merge (row e.place) (row (place order r)))) → Searching n ds order w r row e.distance counts entries (set rs e.place (staged (get_or rs e.place blank) Cut)) q'
+  visit_cut : Tells true e.distance (sum_of (merge (row e.place) (row (place order r)))) → Searching n ds order w r row e.distance counts entries (set rs e.place (staged (get_or rs e.place blank) Cut)) q'
   visit_cut told = record {
     pruning = subst (λ (g : ℕ → Option ℕ). Pruning ds (Due ds g) tells (place order r) e.distance (known k new) (done k new) g q') got_path
         (subst (λ (N : ℕ → Option ℕ). Pruning ds (Due ds (got k rs)) tells (place order r) e.distance N (done k new) (got k rs) q') known_path
@@ -135,12 +136,18 @@ module _ (n : ℕ) (ds : List Row) (order : List ℕ) (w r : ℕ) (row : ℕ →
       known_path : known k rs ≡ known k new
       known_path = λ i v. sym (same_known Cut refl v) i
 
-  pub adds_cut : Adds (r + 1) e.place e.distance rs (set rs e.place (staged (get_or rs e.place blank) Cut))
+  adds_cut : Adds (r + 1) e.place e.distance rs (set rs e.place (staged (get_or rs e.place blank) Cut))
   adds_cut x c g = go (ℕ_discrete x e.place)
     where
       go : Dec (x ≡ e.place) → (got k rs x ≡ Some c) ⊎ ((x ≡ e.place) × (c ≡ e.distance))
       go (yes z) = absurd (not_both (at_new (hub_in k) rs e.place (staged (get_or rs e.place blank) Cut) at) (ap (got k (set rs e.place (staged (get_or rs e.place blank) Cut))) (sym z) ∙ g))
       go (no ne) = inl (sym (other_got Cut refl x ne) ∙ g)
+
+  -- that is all that changes
+  pub was_cut : {rs'' : List Record} {q'' : List SearchEntry} → rs'' ≡ set rs e.place (staged (get_or rs e.place blank) Cut) → q'' ≡ q' → Tells true e.distance (sum_of (merge (row e.place) (row (place order r)))) → Searching n ds order w r row e.distance counts entries rs'' q'' × Settles (r + 1) e.place rs rs'' × Adds (r + 1) e.place e.distance rs rs''
+  was_cut {rs''} {q''} is same told =
+      subst (λ (y : List Record). Searching n ds order w r row e.distance counts entries y q'' × Settles (r + 1) e.place rs y × Adds (r + 1) e.place e.distance rs y) (sym is)
+      (subst (λ (y : List SearchEntry). Searching n ds order w r row e.distance counts entries (set rs e.place (staged (get_or rs e.place blank) Cut)) y) (sym same) (visit_cut told), settles Cut refl, adds_cut)
 
   -- it has the hub
   module _ (less : Less e.distance (said order row r e.place)) where
@@ -205,7 +212,7 @@ module _ (n : ℕ) (ds : List Row) (order : List ℕ) (w r : ℕ) (row : ℕ →
               (old (got k rs v) refl (s.searching.written v i) (row_other n w e.place (record { rank = r; distance = e.distance; neighbour = x }) counts entries counts' entries' s.searching.fits iv more v i ne))
 
       -- its arcs were followed
-      pub visit_hub : (rs'' : List Record) (q'' : List SearchEntry) → Steady (r + 1) (set rs e.place (staged (get_or rs e.place blank) AtHub)) rs'' → Followed (r + 1) arcs e.distance (set rs e.place (staged (get_or rs e.place blank) AtHub)) q' rs'' q'' → Searching n ds order w r row e.distance counts' entries' rs'' q'' × Settles (r + 1) e.place rs rs'' × Adds (r + 1) e.place e.distance rs rs''
+      visit_hub : (rs'' : List Record) (q'' : List SearchEntry) → Steady (r + 1) (set rs e.place (staged (get_or rs e.place blank) AtHub)) rs'' → Followed (r + 1) arcs e.distance (set rs e.place (staged (get_or rs e.place blank) AtHub)) q' rs'' q'' → Searching n ds order w r row e.distance counts' entries' rs'' q'' × Settles (r + 1) e.place rs rs'' × Adds (r + 1) e.place e.distance rs rs''
       visit_hub rs'' q'' steady followed =
           let f = followed ds tells (place order r) e.place s.arcs_are is_got before_arcs in
           let got_path : got k hub_rs ≡ got k rs'' = λ i v. sym (f.1 v) i in (
@@ -224,3 +231,8 @@ module _ (n : ℕ) (ds : List Row) (order : List ℕ) (w r : ℕ) (row : ℕ →
           which : (y c : ℕ) → got k hub_rs y ≡ Some c → Dec (y ≡ e.place) → (got k rs y ≡ Some c) ⊎ ((y ≡ e.place) × (c ≡ e.distance))
           which y c g (yes z) = inr (z, same (ap (got k hub_rs) (sym z) ∙ g) is_got)
           which y c g (no ne) = inl (sym (other_got AtHub refl y ne) ∙ g)
+
+      pub was_hub : {rs' rs'' : List Record} {q₁ q'' : List SearchEntry} (j : ℕ) → j ≡ r + 1 → rs' ≡ set rs e.place (staged (get_or rs e.place blank) AtHub) → q₁ ≡ q' → Steady j rs' rs'' → Followed j arcs e.distance rs' q₁ rs'' q'' → Searching n ds order w r row e.distance counts' entries' rs'' q'' × Settles (r + 1) e.place rs rs'' × Adds (r + 1) e.place e.distance rs rs''
+      was_hub {rs'} {rs''} {q₁} {q''} j same-k is same-q steady followed =
+          visit_hub rs'' q'' (subst (λ (y : List Record). Steady (r + 1) y rs'') is (subst (λ (y : ℕ). Steady y rs' rs'') same-k steady))
+          (subst (λ (y : List Record). Followed (r + 1) arcs e.distance y q' rs'' q'') is (subst (λ (y : List SearchEntry). Followed (r + 1) arcs e.distance rs' y rs'' q'') same-q (subst (λ (y : ℕ). Followed y arcs e.distance rs' q₁ rs'' q'') same-k followed)))

@@ -1,5 +1,6 @@
 pub mod Building
 pub mod Faults
+pub mod Memory
 pub mod Orders
 pub mod Pruning
 pub mod Rounds

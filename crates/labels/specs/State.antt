@@ -1,8 +1,7 @@
 -- What the records say in the round of the number k. Assumes nothing.
-use Rattle.std.specs.Prelude.{◌≡◌, ℕ, ◌<◌, ◌≤◌, Bool, true, false, List, get_or, Some, None, Option, ◌==◌, slice_index_or}
+use Rattle.std.specs.Prelude.{◌≡◌, ℕ, ◌+◌, ◌<◌, ◌≤◌, Bool, true, false, List, get_or, Some, None, Option, ◌==◌, nat_le, slice_index_or}
 use Rattle.ways.specs.Options.{pick}
 use Rattle.hubs.specs.declared.entry.Entry.{Entry}
-use Rattle.hubs.specs.Merge.{Less}
 use Rattle.labels.specs.Table.{no_entry}
 use Rattle.labels.specs.declared.record.Record.{Record}
 use Rattle.labels.specs.declared.record.Stage.{Stage}
@@ -76,10 +75,9 @@ pub record Laid (k : ℕ) (rs : List Record) (ys : List Entry) (i : ℕ) : Type 
   pub only : (r b : ℕ) → laid_at k rs r ≡ Some b → (j : ℕ) × (j < i) × ((get_or ys j no_entry).rank ≡ r) × ((get_or ys j no_entry).distance ≡ b)
   pub every : (j : ℕ) → j < i → laid_at k rs (get_or ys j no_entry).rank ≡ Some (get_or ys j no_entry).distance
 
--- the row and a row that is laid out tell a distance of d or less, or they do not
-abbrev pub Tells : Bool → ℕ → Option ℕ → Type 0
-Tells true d o = Less d o → ⊥
-Tells false d o = Less d o
+-- an entry and the one laid out at its rank in round k give the distance d or less
+abbrev pub tells_by : ℕ → ℕ → Record → Entry → Bool
+tells_by k d x e = pick (x.laid_round == k) (nat_le (e.distance + x.laid) d) false
 
 -- the record of the source when round k begins
 abbrev pub first_record : ℕ → Record → Record

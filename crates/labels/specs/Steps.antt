@@ -1,15 +1,14 @@
 -- What the steps of a pruned search change. Assumes nothing.
-use Rattle.std.specs.Prelude.{◌≡◌, ℕ, ◌+◌, ◌<◌, ◌≤◌, ◌⊎◌, List, ◌∷◌, length, get_or, Some, None, Option, ◌≢◌, slice_index_or, slice_set}
+use Rattle.std.specs.Prelude.{◌≡◌, ℕ, ◌+◌, ◌≤◌, Bool, false, ◌⊎◌, List, ◌∷◌, get_or, Some, Option, ◌≢◌, ◌==◌, slice_index_or, slice_set}
 use Rattle.std.specs.List.Sorted.{IsPermutation}
 use Rattle.heap.specs.declared.search.SearchEntry.{SearchEntry}
 use Rattle.frame.specs.declared.arc.Arc.{Arc}
-use Rattle.frame.specs.Fans.{arc_at}
 use Rattle.frame.specs.Neighbours.{Neighbours}
 use Rattle.ways.specs.declared.row.Row.{Row}
-use Rattle.ways.specs.Options.{AtMost}
+use Rattle.ways.specs.Options.{pick, AtMost}
 use Rattle.hubs.specs.Search.{Back}
 use Rattle.labels.specs.declared.record.Record.{Record}
-use Rattle.labels.specs.State.{blank, known, done, got, noted, Upto}
+use Rattle.labels.specs.State.{blank, is_hub, known, done, got, noted, Upto}
 use Rattle.labels.specs.Pruning.{Due, DueBut, Pruning}
 
 -- a shorter way to a place was found, which now waits
@@ -41,14 +40,9 @@ Followed k arcs d rs q rs' q' =
     (ds : List Row) (tells : ℕ → Option ℕ) (s u : ℕ) → Neighbours ds u arcs → got k rs u ≡ Some d → Pruning ds (DueBut ds (got k rs) u) tells s d (known k rs) (done k rs) (got k rs) q
     → Pruning ds (Due ds (got k rs')) tells s d (known k rs') (done k rs') (got k rs') q' × ((v : ℕ) → got k rs' v ≡ got k rs v)
 
--- the arc leads back: to a place that has the hub, on a way of the length d
-abbrev pub LeadsBack : ℕ → List Record → ℕ → Arc → Type 0
-LeadsBack k rs d a = (b : ℕ) × (got k rs a.to ≡ Some b) × (a.length + b ≡ d)
-
--- the first arc that leads back, or none
-abbrev pub FirstBack : ℕ → List Record → ℕ → List Arc → Option ℕ → Type 0
-FirstBack k rs d arcs None = (i : ℕ) → i < length arcs → LeadsBack k rs d (arc_at arcs i) → ⊥
-FirstBack k rs d arcs (Some w) = (i : ℕ) × (i < length arcs) × ((arc_at arcs i).to ≡ w) × LeadsBack k rs d (arc_at arcs i) × ((j : ℕ) → j < i → LeadsBack k rs d (arc_at arcs j) → ⊥)
+-- whether an arc of this length to the place of the record leads back on a way of the length d
+abbrev pub leads_by : ℕ → ℕ → Record → ℕ → Bool
+leads_by k d x len = pick (is_hub x.stage) (pick (x.round == k) (len + x.distance == d) false) false
 
 -- the neighbour of v that its entry names: v itself where v is the source, else the smallest on the way back, where there is one
 abbrev pub Chosen : ℕ → List Record → List Arc → ℕ → ℕ → ℕ → ℕ → Type 0

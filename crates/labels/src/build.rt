@@ -6,11 +6,13 @@ ghost use Rattle.ways.specs.Places.{Order};
 ghost use Rattle.labels.specs.Building.{memory_verdict, Built, SomeLonger, Zeroed, Rebuilt, Answered};
 
 use crate::fault::LabelsFault;
-use crate::filling::{fill, forget, zero_counts, zero_entries};
+use crate::filling::fill;
 use crate::memory::Sizes;
 use crate::memory_check::check_memory;
 use crate::order::check_order;
 use crate::record::Record;
+use crate::searching::Search;
+use crate::table::Rows;
 use frame::frame::ClosedFrame;
 use heap::queue::Heap;
 use heap::search::SearchEntry;
@@ -34,17 +36,19 @@ fn rebuild(
     requires room { 2 * length (rows_of frame.now) < capacity queue.old }
     ensures { Rebuilt (places_of frame.now) (rows_of frame.now) order.now width counts.new entries.new result }
 {
-    forget(records);
-    zero_entries(entries);
-    zero_counts(counts);
-    match fill(frame, order, entries, counts, width, records, queue) {
-        Ok(()) => Ok(()),
-        Err(fault) => {
-            zero_entries(entries);
-            zero_counts(counts);
-            Err(fault)
-        }
+    records.fill(Record::default());
+    let mut rows = Rows::empty(entries, counts, width);
+    let mut search = Search {
+        records,
+        queue,
+        round: 0,
+    };
+    let filled = fill(frame, order, &mut rows, &mut search);
+    // No `inspect_err`: of a closure that changes what it captures the proof knows nothing.
+    if filled.is_err() {
+        rows.clear();
     }
+    filled
 }
 
 // Fills the rows of every place with its label, under any order. Refuses 13, 31, 17 and 36, in this order;
@@ -76,7 +80,7 @@ pub fn build(
         order,
         entries,
         counts,
-        &mut records[0..n],
+        &mut records[..n],
         queue,
     )
 }

@@ -13,10 +13,7 @@ pub fn check_memory(frame: &ClosedFrame, width: u32, sizes: Sizes) -> Result<(),
 {
     let n = frame.places();
     let entries = 2 * frame.len() as u32 + 1;
-    if width < 1 {
-        return Err(LabelsFault::Width);
-    }
-    if 4096 < width {
+    if !(1..=4096).contains(&width) {
         return Err(LabelsFault::Width);
     }
     if sizes.rows != (n * width) as usize {

@@ -6,12 +6,12 @@ ghost use Rattle.labels.specs.State.{listed};
 use crate::fault::LabelsFault;
 use crate::record::Record;
 
-// Marks no place as listed.
+// Marks no place as listed. The search's records are cleared of a mark alike; a function of both, with a closure for one assignment, is no plainer.
 fn unlist(records: &mut [Record])
     ensures { (v : ℕ) → listed records.new v ≡ false }
 {
-    for i in 0..records.len() {
-        records[i].listed = false;
+    for record in records.iter_mut() {
+        record.listed = false;
     }
 }
 
@@ -23,15 +23,11 @@ pub(crate) fn check_order(order: &[u32], records: &mut [Record]) -> Result<(), L
 {
     unlist(records);
     let n = order.len() as u32;
-    for i in 0..order.len() {
-        let place = order[i];
-        if place >= n {
+    for (i, place) in order.iter().enumerate() {
+        if *place >= n || records[*place as usize].listed {
             return Err(LabelsFault::Order { position: i as u32 });
         }
-        if records[place as usize].listed {
-            return Err(LabelsFault::Order { position: i as u32 });
-        }
-        records[place as usize].listed = true;
+        records[*place as usize].listed = true;
     }
     Ok(())
 }

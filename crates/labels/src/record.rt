@@ -1,9 +1,10 @@
 // What building keeps of a place while it searches, and of the rank of the same number.
 
 // How far a search came with a place.
-#[derive(Clone, Copy, PartialEq, Eq, Debug)]
+#[derive(Clone, Copy, PartialEq, Eq, Debug, Default)]
 pub enum Stage {
     // It waits in the heap, and a shorter way may come.
+    #[default]
     Waiting,
     // The labels so far tell its distance.
     Cut,
@@ -11,8 +12,8 @@ pub enum Stage {
     Hub,
 }
 
-// A mark of an earlier round counts as none, so that no round has to wipe them.
-#[derive(Clone, Copy, PartialEq, Eq, Debug)]
+// A mark of an earlier round counts as none, so that no round has to wipe them, as it would have to an Option of marks.
+#[derive(Clone, Copy, PartialEq, Eq, Debug, Default)]
 pub struct Record {
     // The order has the place.
     pub listed: bool,

@@ -16,13 +16,13 @@ impl Refusal for LabelsFault {
     fn number(&self) -> u32 {
         match self {
             LabelsFault::Width => 13,
-            LabelsFault::Rows { needed: _ } => 31,
-            LabelsFault::Counts { needed: _ } => 31,
-            LabelsFault::Places { needed: _ } => 31,
-            LabelsFault::Records { needed: _ } => 31,
-            LabelsFault::Entries { needed: _ } => 31,
-            LabelsFault::Order { position: _ } => 17,
-            LabelsFault::TooLong { width: _ } => 36,
+            LabelsFault::Rows { .. }
+            | LabelsFault::Counts { .. }
+            | LabelsFault::Places { .. }
+            | LabelsFault::Records { .. }
+            | LabelsFault::Entries { .. } => 31,
+            LabelsFault::Order { .. } => 17,
+            LabelsFault::TooLong { .. } => 36,
             LabelsFault::NotRight => 37,
         }
     }
@@ -34,13 +34,13 @@ impl Refusal for LabelsFault {
     fn spot(&self) -> u64 {
         match self {
             LabelsFault::Width => 1,
-            LabelsFault::Rows { needed } => u64::from(*needed),
-            LabelsFault::Counts { needed } => u64::from(*needed),
-            LabelsFault::Places { needed } => u64::from(*needed),
-            LabelsFault::Records { needed } => u64::from(*needed),
-            LabelsFault::Entries { needed } => u64::from(*needed),
-            LabelsFault::Order { position } => u64::from(*position),
-            LabelsFault::TooLong { width } => u64::from(*width),
+            LabelsFault::Rows { needed: spot }
+            | LabelsFault::Counts { needed: spot }
+            | LabelsFault::Places { needed: spot }
+            | LabelsFault::Records { needed: spot }
+            | LabelsFault::Entries { needed: spot }
+            | LabelsFault::Order { position: spot }
+            | LabelsFault::TooLong { width: spot } => u64::from(*spot),
             LabelsFault::NotRight => 0,
         }
     }

@@ -1,10 +1,10 @@
-use Rattle.std.proofs.Common.{◌≡◌, ◌+◌, ◌-◌, length, drop}
+use Rattle.std.proofs.Common.{◌≡◌, ◌+◌, length}
 use Rattle.hubs.specs.Merge.{merge, sooner}
 use Rattle.label_rows.proofs.merge.merge_rows.Given as goal
 
 -- what is left of both rows, behind the best so far, is what the rows had
-abbrev pub invariant-loop-i : goal.invariant-loop-i
-invariant-loop-i l = sooner l.best (merge (drop l.i l.xs) (drop l.j l.ys)) ≡ merge l.xs l.ys
+abbrev pub invariant-loop-left : goal.invariant-loop-left
+invariant-loop-left l = sooner l.best (merge l.left l.right) ≡ merge l.xs l.ys
 
-abbrev pub decreases-loop-i : goal.decreases-loop-i
-decreases-loop-i l = (length l.initial.xs - l.i) + (length l.initial.ys - l.j)
+abbrev pub decreases-loop-left : goal.decreases-loop-left
+decreases-loop-left l = length l.left + length l.right
