@@ -15,7 +15,7 @@ use frame::frame::ClosedFrame;
 use heap::queue::Heap;
 use heap::search::SearchEntry;
 
-// The memory of a search, which is lent: a record of each place, and the places that wait.
+// The memory that is lent to a search: a record of each place, and the places that wait.
 // Labels have a twin over other records: one for both would be a public call with `requires`, and a public call refuses.
 #[derive(Drop)]
 struct Search<'a> {
@@ -94,6 +94,8 @@ impl Search<'_> {
 }
 
 // Gives each record the distance of its place from the source, or none where no way leads to it.
+// Records and heap come apart: of a struct that the caller makes over a part of its records, the check finds no proof
+// that the part ends as the search leaves it.
 pub(crate) fn run(
     frame: &ClosedFrame,
     records: &mut [Record],

@@ -32,41 +32,29 @@ loop-entry-init c =
 
 pub bounds-search-at : goal.bounds-search-at
 bounds-search-at c =
-    let f = c.args.frame.now in
     let l = c.loop-entry in
-    let rs = l.search.records.now in
-    let told = c.in-Some.ensures in
-    let v = turn f rs (l.invariant.same.size ∙ c.begin.ensures.same.size ∙ c.requires.records) c.args.source c.requires.within l.invariant.kept l.search.queue.now.heaped told.bag in
+    let v = turn c.args.frame.now l.search.records.now (l.invariant.same.size ∙ c.begin.ensures.same.size ∙ c.requires.records) c.args.source c.requires.within l.invariant.kept l.search.queue.now.heaped c.in-Some.ensures.bag in
     v.in_records
 
 pub bounds-search-at-then-not-search-at : goal.bounds-search-at-then-not-search-at
 bounds-search-at-then-not-search-at c =
-    let f = c.args.frame.now in
     let l = c.loop-entry in
-    let rs = l.search.records.now in
-    let told = c.in-Some.ensures in
-    let v = turn f rs (l.invariant.same.size ∙ c.begin.ensures.same.size ∙ c.requires.records) c.args.source c.requires.within l.invariant.kept l.search.queue.now.heaped told.bag in
+    let v = turn c.args.frame.now l.search.records.now (l.invariant.same.size ∙ c.begin.ensures.same.size ∙ c.requires.records) c.args.source c.requires.within l.invariant.kept l.search.queue.now.heaped c.in-Some.ensures.bag in
     v.in_records
 
-pub follow-requires-clause-distance : goal.follow-requires-clause-distance
-follow-requires-clause-distance c =
-    let f = c.args.frame.now in
+pub follow-requires : goal.follow-requires
+follow-requires c =
     let l = c.loop-entry in
     let rs = l.search.records.now in
     let told = c.in-Some.ensures in
-    let v = turn f rs (l.invariant.same.size ∙ c.begin.ensures.same.size ∙ c.requires.records) c.args.source c.requires.within l.invariant.kept l.search.queue.now.heaped told.bag in
+    let size = l.invariant.same.size ∙ c.begin.ensures.same.size ∙ c.requires.records in
+    let v = turn c.args.frame.now rs size c.args.source c.requires.within l.invariant.kept l.search.queue.now.heaped told.bag in
     let unsettled : done rs c.in-Some.entry.place ≡ false = c.if-not-search-at.true in
-    v.is_short unsettled
-
-pub follow-requires-clause-room : goal.follow-requires-clause-room
-follow-requires-clause-room c =
-    let f = c.args.frame.now in
-    let l = c.loop-entry in
-    let rs = l.search.records.now in
-    let told = c.in-Some.ensures in
-    let v = turn f rs (l.invariant.same.size ∙ c.begin.ensures.same.size ∙ c.requires.records) c.args.source c.requires.within l.invariant.kept l.search.queue.now.heaped told.bag in
-    let unsettled : done rs c.in-Some.entry.place ≡ false = c.if-not-search-at.true in
-    omega (arith, told.bag.shorter, told.room, v.lessens unsettled, l.invariant.fits)
+    record {
+      records = length-set rs c.in-Some.entry.place _ ∙ size;
+      distance = v.is_short unsettled;
+      room = omega (arith, told.bag.shorter, told.room, v.lessens unsettled, l.invariant.fits);
+    }
 
 pub loop-entry-smaller-then-not-search-at : goal.loop-entry-smaller-then-not-search-at
 loop-entry-smaller-then-not-search-at c =
@@ -102,11 +90,9 @@ loop-entry-preserved-then-not-search-at c =
 
 pub loop-entry-preserved : goal.loop-entry-preserved
 loop-entry-preserved c =
-    let f = c.args.frame.now in
     let l = c.loop-entry in
-    let rs = l.search.records.now in
     let told = c.in-Some.ensures in
-    let v = turn f rs (l.invariant.same.size ∙ c.begin.ensures.same.size ∙ c.requires.records) c.args.source c.requires.within l.invariant.kept l.search.queue.now.heaped told.bag in
+    let v = turn c.args.frame.now l.search.records.now (l.invariant.same.size ∙ c.begin.ensures.same.size ∙ c.requires.records) c.args.source c.requires.within l.invariant.kept l.search.queue.now.heaped told.bag in
     let i = l.invariant.same in
     record {
       same = record { records = i.records; queue = i.queue; size = i.size; room = told.room ∙ i.room; focus = i.focus };
