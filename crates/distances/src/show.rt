@@ -6,6 +6,7 @@ use oracle::walk::walk;
 
 pub(crate) fn show_frame(rt: &HostRuntime, frame: &ClosedFrame) -> anyhow::Result<()> {
     println!(rt; "Frame: {} places, {} ducts", frame.places(), frame.len())?;
+    // By their numbers: a frame keeps rows, and hands out ducts one by one.
     for duct in (0..frame.len()).filter_map(|i| frame.duct(i)) {
         println!(rt; "  {duct}")?;
     }

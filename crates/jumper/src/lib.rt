@@ -1,5 +1,6 @@
 // The jumper: one more duct laid over any oracle.
 // What a call leaves as it was is said of each call: no type relates what was to what is.
+// That a duct is lawful is asked by each function that goes over it, and is no invariant: a jumper is made of any numbers.
 #![tactic(auto)]
 
 pub mod group;

@@ -75,7 +75,6 @@ pub(crate) fn narrowed(d: Option<u64>) -> Option<u32>
 }
 
 // The length of a way over the duct from its first end to its second.
-// That the duct is lawful is a clause here and no invariant: a jumper is made of any numbers.
 fn over<O: DistanceOracle>(o: &mut O, duct: Row, u: u32, v: u32) -> Option<u64>
     requires lawful { LawfulDuct (O.DistanceOracle.meaning o.old).count duct }
     requires u_within { u < (O.DistanceOracle.meaning o.old).count }

@@ -5,7 +5,7 @@ ghost use Rattle.hubs.specs.Merge.{merge, sooner};
 use hubs::entry::Entry;
 use hubs::meeting::Meeting;
 
-// The best so far, and one more behind it. By the sum alone, so not by a derived order, which compares ranks too.
+// The best so far, and one more behind it. By the sum alone: a derived order would compare ranks too, and a pair made for it is no plainer.
 fn kept(best: Option<Meeting>, m: Meeting) -> Option<Meeting>
     ensures { result ≡ sooner best (Some m) }
 {

@@ -18,7 +18,7 @@ pub fn read_line(text: &[u8], at: u64) -> Result<Line<ReadFitting>, ReaderFault>
 fn read(text: &[u8]) -> Option<Line<ReadFitting>>
     ensures { Reads text.now result }
 {
-    // A pattern has no `?`.
+    // A line is taken apart by one pattern, as the project's rules have it; a pattern has no `?`.
     let [letter, b' ', tail @ ..] = text else {
         return None;
     };

@@ -1,5 +1,4 @@
 // How far a place is from groups.
-// Each contract asks that the groups' places are the oracle's: a struct that held them so would ask the same of its number of places.
 ghost use Rattle.std.specs.Prelude.{◌≡◌, ◌<◌, ◌≤◌, length};
 ghost use Rattle.ways.specs.Nearest.{Nearest};
 ghost use Rattle.ways.specs.Places.{AllBelow};
