@@ -1,7 +1,5 @@
 -- How a job's fittings become a plan's groups, and what follows. Assumes nothing.
-use Rattle.std.proofs.Common.{◌≡◌, ℕ, ◌-◌, ◌*◌, ◌≤◌, min, Bool, true, false, cond, List, [], ◌∷◌, ◌++◌, length, take, drop, is_err, IfOk, MatchResult, Some, None, Ok, Err, vec_items, Option, Result, sym, refl, ap, ◌∙◌, subst, arith, lt-ltb}
-use mathlib.Core.Path.{transport}
-use Rattle.std.proofs.lemmas.List.{length-append, take_at}
+use Rattle.std.proofs.Common.{◌≡◌, ℕ, Bool, true, false, cond, List, [], ◌∷◌, length, is_err, IfOk, MatchResult, Some, None, Ok, Err, Option, Result, sym, refl, ap, ◌∙◌, subst, arith, lt-ltb}
 use Rattle.std.specs.List.{AllByRecursion}
 use Rattle.ways.specs.Places.{AllBelow, outside}
 use Rattle.job.specs.declared.fault.JobFault.{JobFault}
@@ -16,12 +14,8 @@ use Rattle.plan.specs.declared.fault.PlanFault.TheVariants.{Count, NoPlace as No
 use Rattle.plan.specs.Plans as plan
 use Rattle.plan.specs.Plans.{or_else, outside_groups, FewGroups, Unplanned, Planned, Joining, Steps}
 use Rattle.plan.specs.declared.trunk.Trunk.{Trunk}
-use Rattle.plan.specs.Trunks.{Tells}
-use Rattle.trees.specs.Connected.{weight, Tree, TouchesAll}
-use Rattle.trees.specs.Growth.{net}
-use Rattle.day.specs.declared.answer.Laid.{Laid}
-use Rattle.day.specs.Law.{refusal, Ready, Refused, Answers}
-use Rattle.day.specs.Run.{PlanLaw, FocusLaw}
+use Rattle.day.specs.Law.{refusal, Refused, Answers}
+use Rattle.day.specs.Run.{FocusLaw}
 
 -- places below n are none outside
 outside_none : (n : ℕ) (ps : List ℕ) → AllBelow n ps → outside n ps ≡ None
@@ -41,30 +35,6 @@ refused_too m n gs old (NoSuchPlace place) g few inside same is h =
     let y : ◌≡◌ {A = ℕ} 0 1 = cc in omega arith
 refused_too m n gs old (Rows needed) g few inside same is h = (few.0, same, omega (arith, h.2), h.3)
 refused_too m n gs old (NoSuchSet groups) g few inside same is h = (record { some = few.0; same = same; roomy = omega (arith, h.0.roomy) }, is, h.2)
-
--- the beginning of the memory is what was laid
-laid_rows : (k d : ℕ) (ds old rows : List Row) → rows ≡ ds ++ drop (length ds) old → d ≡ length ds → k ≡ min d (length rows) → take k rows ≡ ds
-laid_rows k d ds old rows e f is =
-    let long : length ds ≤ length rows = omega (arith, ap length e, length-append ds (drop (length ds) old)) in
-    let all : k ≡ length ds = is ∙ ap (λ (x : ℕ). min x (length rows)) f ∙ min_left (length ds) (length rows) long in
-    ap (take k) e ∙ take_at ds (drop (length ds) old) k (sym all)
-  where
-    min_left : (a b : ℕ) → a ≤ b → min a b ≡ a
-    min_left a b h = omega arith
-
--- a planned trunk, kept with a copy of its ducts, keeps the law
-pub kept_law : (m : Meaning) (n : ℕ) (gs : List (List ℕ)) (old rows : List Row) (t : Trunk) (l : Laid) (k : ℕ) → l.trunk ≡ t → vec_items l.ducts ≡ take k rows → k ≡ min t.ducts (length rows) → Ready m n gs (length old) × Planned m gs old rows t → PlanLaw m n gs (length old) (Ok l)
-kept_law m n gs old rows t l k same items is (ready, p) =
-    let ds : vec_items l.ducts ≡ p.ducts = items ∙ laid_rows k t.ducts p.ducts old rows p.rows p.tells.ducts is in (
-      ready,
-      record {
-        steps = transport (λ i. Steps m gs (sym same i).start (sym ds i)) p.steps;
-        tells = transport (λ i. Tells (sym same i) (sym same i).start (sym ds i)) p.tells;
-        tree = transport (λ i. Tree m.count m.ducts (net (sym same i).start (sym ds i))) p.tree;
-        touches = transport (λ i. TouchesAll (net (sym same i).start (sym ds i)) gs) p.touches;
-        bounded = λ c j. subst (λ (x : Trunk). x.weight ≤ (length gs - 1) * weight c.ducts) (sym same) (p.bounded c j);
-      },
-    )
 
 -- a call that fails makes nothing
 pub made_none : {A F : Type 0} (r : Result A F) (P : A → Type 0) → is_err r ≡ true → IfOk r P

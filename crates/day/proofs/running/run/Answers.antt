@@ -1,5 +1,5 @@
-use Rattle.std.proofs.Common.{◌≡◌, ℕ, ◌+◌, ◌<◌, List, [], ◌∷◌, ◌++◌, map, length, get_or, take, vec_items, sym, ap, ◌∙◌, subst, arith}
-use Rattle.std.proofs.lemmas.List.{length-map, get_or_default}
+use Rattle.std.proofs.Common.{◌≡◌, ℕ, ◌+◌, ◌<◌, List, [], ◌∷◌, ◌++◌, map, length, get_or, take, vec_items, sym, ap, ◌∙◌, subst}
+use Rattle.std.proofs.lemmas.List.{get_or_default}
 use Rattle.oracle.specs.Meaning.{Meaning}
 use Rattle.job.specs.declared.call.Call.{Call}
 use Rattle.job.specs.declared.call.Call.TheVariants.{Add}
@@ -36,16 +36,3 @@ loop-call-preserved g c =
       c.answered.auto.trunk ∙ c.loop-call.invariant.3,
       subst (λ (zs : List Answer). SoFar m room calls zs (i + 1)) (sym c.in_ok-push.ensures.items) more.1,
     )
-
-pub returns : goal.returns
-returns g c =
-    let calls = c.args.calls.now in
-    let i = c.loop-call.call-index in
-    let e : i ≡ length (map said calls) = omega (arith, length-map calls said, c.loop-call-test.false, c.loop-call.auto.call-index-end) in
-    record {
-      day = record {
-        as_many = sym c.loop-call.answers.ok.0 ∙ c.loop-call.invariant.1 ∙ e;
-        each = λ k h. c.loop-call.invariant.4 k (omega arith);
-      };
-      same = c.loop-call.invariant.2;
-    }

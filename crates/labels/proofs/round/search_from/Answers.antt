@@ -31,11 +31,6 @@ lay-requires-clause-ranks c =
 pub begin-requires-clause-within : goal.begin-requires-clause-within
 begin-requires-clause-within c = omega (arith, c.lay.ensures.round.room.records, c.requires.records, place_in (places_of c.args.frame.now) c.args.order.now c.requires.ready.ordered c.args.rank c.requires.ready.inside)
 
-pub begin-requires-clause-fresh : goal.begin-requires-clause-fresh
-begin-requires-clause-fresh c =
-    let s : ℕ = place c.args.order.now c.args.rank in
-    omega (arith, c.lay.ensures.round.round, c.lay.ensures.same.round s, c.requires.upto.came s)
-
 pub loop-popped-init : goal.loop-popped-init
 loop-popped-init c =
     let n = places_of c.args.frame.now in

@@ -1,4 +1,4 @@
-use Rattle.std.proofs.Common.{◌≡◌, ◌+◌, ◌-◌, ◌<◌, ◌≤◌, List, length, take, drop, vec_items, sym, ap, subst, arith, rules}
+use Rattle.std.proofs.Common.{◌≡◌, ◌+◌, ◌-◌, ◌<◌, List, length, take, drop, vec_items, sym, subst, arith, rules}
 use Rattle.std.proofs.lemmas.List.{get_or_read}
 use Rattle.frame.specs.declared.arc.Arc.{Arc}
 use Rattle.frame.specs.Fans.{from_at}
@@ -27,19 +27,11 @@ known c =
     let b : c.index-end.result.now ≡ from_at offs (c.args.place + 1) = search (rules, get_or_read) in
     span _ _ _ _ f c.args.place in' _ _ a b
 
-pub offset_bounds-as_slice-start : goal.offset_bounds-as_slice-start
-offset_bounds-as_slice-start c = let s = known c in omega (arith, s.rises, s.fits, s.few)
-
 pub slice_bounds-result-count : goal.slice_bounds-result-count
 slice_bounds-result-count c = (known c).rises
 
 pub slice_bounds-result-start : goal.slice_bounds-result-start
 slice_bounds-result-start c = (known c).rises
-
-pub slice_bounds-result-end-2 : goal.slice_bounds-result-end-2
-slice_bounds-result-end-2 c =
-    let h : c.index-end.result.now ≤ length c.as_slice.result.now = omega (arith, (known c).fits, ap length c.as_slice.ensures.value) in
-    h
 
 pub returns : goal.returns
 returns c =
