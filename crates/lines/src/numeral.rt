@@ -1,5 +1,5 @@
 // A number at the front of a text.
-ghost use Rattle.std.specs.Prelude.{◌≡◌, ◌≤◌, ◌<◌, ◌∷◌, length, take, drop};
+ghost use Rattle.std.specs.Prelude.{◌≡◌, ◌≤◌, ◌∷◌, length, take, drop};
 ghost use Rattle.std.specs.Str.Parse.{AllDigits, digits_value as worth};
 ghost use Rattle.lines.specs.Text.{Finds, Stops, held};
 
@@ -16,14 +16,14 @@ fn digits(text: &[u8]) -> usize
 
 // The number that digits write, however many, or the largest of 64 bits in place of any above it.
 fn value(piece: &[u8]) -> u64
-    requires some { 0 < length piece.now }
-    requires digits { AllDigits 10 piece.now }
+    requires { AllDigits 10 piece.now }
     ensures { result ≡ held (worth 10 piece.now) }
 {
-    str::from_utf8(piece)
-        .ok()
-        .and_then(|text| text.parse().ok())
-        .unwrap_or(u64::MAX)
+    // By `parse` of a `str` a line takes about twice as long to read.
+    piece.iter().fold(0, |n: u64, digit| {
+        n.saturating_mul(10)
+            .saturating_add(u64::from(digit.saturating_sub(b'0')))
+    })
 }
 
 // The number behind a blank, and what follows its last digit.

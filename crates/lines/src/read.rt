@@ -11,7 +11,11 @@ use ways::row::Row;
 pub fn read_line(text: &[u8], at: u64) -> Result<Line<ReadFitting>, ReaderFault>
     ensures { ReadsAt text.now at result }
 {
-    read(text).ok_or(ReaderFault::Form { line: at })
+    // No `ok_or`: it copies the line once more, and a short line takes twice as long.
+    match read(text) {
+        Some(line) => Ok(line),
+        None => Err(ReaderFault::Form { line: at }),
+    }
 }
 
 // The line, or none where the text breaks the form.
