@@ -38,9 +38,14 @@ pub(crate) fn nearest_lit(records: &[Record]) -> Option<Near<u32>>
 {
     let mut best = None;
     for (i, record) in records.iter().enumerate() {
-        if record.focused {
+        if let Record {
+            distance: Some(distance),
+            focused: true,
+            ..
+        } = *record
+        {
             let place = i as u32;
-            let here = record.distance.map(|distance| Near { distance, place });
+            let here = Some(Near { distance, place });
             best = lesser(best, here);
         }
     }
