@@ -12,15 +12,11 @@ use Rattle.oracle.specs.Meaning.{Meaning, far}
 use Rattle.trees.specs.Groups.{gap, cost, focus_on, GroupsBelow}
 use Rattle.trees.proofs.Places.{on_left, on_right}
 use Rattle.trees.proofs.Groups.{nearest_gap}
-use Rattle.plan.specs.Choices.{Least, Gathered, Around}
+use Rattle.plan.specs.Choices.{Least, near_cmp, Gathered, Around}
 use Rattle.plan.specs.Trunks.{Reached}
 use Rattle.plan.proofs.Nexts.{each_more}
 use Rattle.plan.proofs.Orders.{less, not_less, less_last, not_less_last}
 use Rattle.plan.proofs.Trunks.{sum_of}
-
--- the order of what is near
-abbrev near_cmp : Near → Near → Ordering
-near_cmp p q = ordering_then (nat_cmp p.distance q.distance) (nat_cmp p.place q.place)
 
 module _ (costs : ℕ → Option ℕ) where
   later_trans : (f h : Near) (x : ℕ) (o : Option ℕ) → (f.distance ≤ h.distance) × (f.distance ≡ h.distance → f.place ≤ h.place) → Later h x o → Later f x o

@@ -1,5 +1,7 @@
 -- The place to begin at, and the chosen places. Assumes nothing.
 use Rattle.std.specs.Prelude.{◌≡◌, ℕ, List, [], ◌∷◌, Some, None, Option}
+use Rattle.std.specs.declared.cmp.Ordering.{Ordering}
+use Rattle.std.specs.Ordering.{nat_cmp, ordering_then}
 use Rattle.ways.specs.Nearest.{Near, Later, Nearest}
 use Rattle.ways.specs.Places.{On}
 use Rattle.oracle.specs.Meaning.{Meaning, far}
@@ -9,6 +11,10 @@ use Rattle.trees.specs.Groups.{cost, focus_on}
 abbrev pub Least : List ℕ → (ℕ → Option ℕ) → Option Near → Type 0
 Least vs costs None = (v : ℕ) → On v vs → costs v ≡ None
 Least vs costs (Some p) = On p.place vs × (costs p.place ≡ Some p.distance) × ((v : ℕ) → On v vs → Later p v (costs v))
+
+-- the order of what is near: by the distance, and then by the number
+abbrev pub near_cmp : Near → Near → Ordering
+near_cmp p q = ordering_then (nat_cmp p.distance q.distance) (nat_cmp p.place q.place)
 
 -- the place of the first group whose distances to the nearest places of the others are together the least, the smallest number among equals;
 -- a place with an absent one is passed over

@@ -1,11 +1,12 @@
 // Where to begin, and which place of each group to reach.
 ghost use Rattle.std.specs.Prelude.{◌≡◌, ℕ, ◌<◌, ◌≤◌, length, Some};
 ghost use Rattle.ways.specs.Few.{members};
+ghost use Rattle.ways.specs.Lesser.{lesser_by};
 ghost use Rattle.ways.specs.Places.{AllBelow};
 ghost use Rattle.oracle.specs.Meaning.{far};
 ghost use Rattle.trees.specs.Groups.{cost, GroupsBelow};
 ghost use Rattle.plan.specs.Groups.{lists};
-ghost use Rattle.plan.specs.Choices.{Begins, Around};
+ghost use Rattle.plan.specs.Choices.{Begins, Around, near_cmp};
 
 use crate::group::Group;
 use crate::reach::{cost_of, nearest_of};
@@ -13,6 +14,13 @@ use oracle::traits::{DistanceOracle, GroupOracle};
 use ways::few::Few;
 use ways::lesser::lesser;
 use ways::near::Near;
+
+// The cheaper start, and of two as cheap that of the smaller place: `lesser`, in the words of the steps.
+fn cheaper(first: Option<Near<u64>>, other: Option<Near<u64>>) -> Option<Near<u64>>
+    ensures { result ≡ lesser_by near_cmp first other }
+{
+    lesser(first, other)
+}
 
 // The place of the first group whose distances to the others are together the least, with their sum, or none where no place has a way to all of them.
 pub(crate) fn least_start<O: GroupOracle>(
@@ -33,7 +41,7 @@ pub(crate) fn least_start<O: GroupOracle>(
             distance,
             place: *place,
         });
-        best = lesser(best, start);
+        best = cheaper(best, start);
     }
     best
 }
