@@ -28,7 +28,7 @@ fitted_inside n [] h = refl
 fitted_inside n (g ∷ gs) h = ap (λ (o : Option ℕ). or_else o (outside_groups n gs)) (outside_none n g h.0.inside) ∙ fitted_inside n gs h.1
 
 -- what a plan refuses, the job refuses
-refused_too : (m : Meaning) (n : ℕ) (gs : List (List ℕ)) (old : List Row) (e : PlanFault) (g : ℕ) → FewGroups gs → outside_groups m.count gs ≡ None → m.count ≡ n → g ≡ length gs → Unplanned m gs old e → Refused m n gs (length old) (refusal e g)
+pub refused_too : (m : Meaning) (n : ℕ) (gs : List (List ℕ)) (old : List Row) (e : PlanFault) (g : ℕ) → FewGroups gs → outside_groups m.count gs ≡ None → m.count ≡ n → g ≡ length gs → Unplanned m gs old e → Refused m n gs (length old) (refusal e g)
 refused_too m n gs old (Count groups) g few inside same is h = absurd (h.1 few)
 refused_too m n gs old (NoSuchPlace place) g few inside same is h =
     let z : ◌≡◌ {A = Option ℕ} None (Some place) = sym inside ∙ h.1 in

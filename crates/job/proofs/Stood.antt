@@ -12,10 +12,10 @@ use Rattle.job.proofs.Listings.{all_below}
 use Rattle.job.proofs.Verdicts.{add_checks}
 
 -- a change is seen at its fitting alone
-put_at : (on : Standing) (g k : ℕ) (v : Option (List ℕ)) → k ≡ g → put on g v k ≡ v
+pub put_at : (on : Standing) (g k : ℕ) (v : Option (List ℕ)) → k ≡ g → put on g v k ≡ v
 put_at on g k v e = grind arith
 
-put_beside : (on : Standing) (g k : ℕ) (v : Option (List ℕ)) → (k ≡ g → ⊥) → put on g v k ≡ on k
+pub put_beside : (on : Standing) (g k : ℕ) (v : Option (List ℕ)) → (k ≡ g → ⊥) → put on g v k ≡ on k
 put_beside on g k v ne = grind arith
 
 -- what stands after one call more

@@ -13,14 +13,14 @@ use Rattle.oracle.specs.Answers.{Stepped, step_for, step_of}
 use Rattle.jumper.specs.Jumped.{duct, crossing, enter, rule_with, with_duct}
 use Rattle.jumper.specs.Sounds.{three_sums}
 
-pick_at : {A : Type 0} (x y : ℕ) (p q : A) → x ≡ y → pick (eqb x y) p q ≡ p
+pub pick_at : {A : Type 0} (x y : ℕ) (p q : A) → x ≡ y → pick (eqb x y) p q ≡ p
 pick_at x y p q e = ap (λ (c : Bool). pick c p q) (eq-eqb x y e)
 
-pick_off : {A : Type 0} (x y : ℕ) (p q : A) → (x ≡ y → ⊥) → pick (eqb x y) p q ≡ q
+pub pick_off : {A : Type 0} (x y : ℕ) (p q : A) → (x ≡ y → ⊥) → pick (eqb x y) p q ≡ q
 pick_off x y p q ne = ap (λ (c : Bool). pick c p q) (ne_eqb x y ne)
 
 -- a step below that is the same is the answer
-stepped_as : (k m : Meaning) (u v x : ℕ) (r : Result Step OracleFault) → k.count ≡ m.count → u < m.count → v < m.count → x < m.count → step_of k u v ≡ step_of m u x → Stepped m u x r → Stepped k u v r
+pub stepped_as : (k m : Meaning) (u v x : ℕ) (r : Result Step OracleFault) → k.count ≡ m.count → u < m.count → v < m.count → x < m.count → step_of k u v ≡ step_of m u x → Stepped m u x r → Stepped k u v r
 stepped_as k m u v x (Ok t) c iu iv ix e h = (omega arith, omega arith, h.2 ∙ sym e)
 stepped_as k m u v x (Err f) c iu iv ix e h = absurd (omega (arith, h.0 iu))
 
@@ -37,7 +37,7 @@ module _ (m : Meaning) (a b len : ℕ) (s : Sound m) (l : LawfulDuct m.count (du
   step_at o h p q = ap (λ (x : Option ℕ). pick (eqb u v) Here (step_for x (rule_with m a b len u v))) p ∙ ap (λ (x : Hop). pick (eqb u v) Here (step_for o x)) q
 
   -- without the duct
-  step_stays : within (far m u v) (lesser (crossing m a b len u v) (crossing m b a len u v)) ≡ true → step_of new u v ≡ step_of m u v
+  pub step_stays : within (far m u v) (lesser (crossing m a b len u v) (crossing m b a len u v)) ≡ true → step_of new u v ≡ step_of m u v
   step_stays e =
       let rest : Hop = pick (within (crossing m a b len u v) (crossing m b a len u v)) (enter m a b len u) (enter m b a len u) in
       let over : Option ℕ = lesser (crossing m a b len u v) (crossing m b a len u v) in
@@ -56,7 +56,7 @@ module _ (m : Meaning) (a b len : ℕ) (s : Sound m) (l : LawfulDuct m.count (du
       go false f true (Some n) (Some w) k = refl
       go false f false (Some n) (Some w) k = refl
 
-  step_crosses : (k : Row) → (u ≡ v → ⊥) → within (far m u v) (lesser (crossing m a b len u v) (crossing m b a len u v)) ≡ false → k ≡ pick (within (crossing m a b len u v) (crossing m b a len u v)) (duct a b len) (duct b a len) → (k.first < m.count) × (step_of new u v ≡ pick (eqb u k.first) (Next k.second k.length) (step_of m u k.first))
+  pub step_crosses : (k : Row) → (u ≡ v → ⊥) → within (far m u v) (lesser (crossing m a b len u v) (crossing m b a len u v)) ≡ false → k ≡ pick (within (crossing m a b len u v) (crossing m b a len u v)) (duct a b len) (duct b a len) → (k.first < m.count) × (step_of new u v ≡ pick (eqb u k.first) (Next k.second k.length) (step_of m u k.first))
   step_crosses k ne e f = go (within there back) refl
     where
       there : Option ℕ

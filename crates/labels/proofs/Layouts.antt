@@ -96,7 +96,7 @@ Tells true d o = Less d o → ⊥
 Tells false d o = Less d o
 
 -- an entry of the row meets the one laid out at its rank, at d or less
-told : (k : ℕ) (rs : List Record) (xs ys : List Entry) (d i b : ℕ) → Rising xs → Rising ys → Laid k rs ys (length ys) → i < length xs → laid_at k rs (get_or xs i no_entry).rank ≡ Some b → (get_or xs i no_entry).distance + b ≤ d → Tells true d (sum_of (merge xs ys))
+pub told : (k : ℕ) (rs : List Record) (xs ys : List Entry) (d i b : ℕ) → Rising xs → Rising ys → Laid k rs ys (length ys) → i < length xs → laid_at k rs (get_or xs i no_entry).rank ≡ Some b → (get_or xs i no_entry).distance + b ≤ d → Tells true d (sum_of (merge xs ys))
 told k rs xs ys d i b p q l m e le = go (merge xs ys) (merge_finds xs ys p q)
   where
     w : (j : ℕ) × (j < length ys) × ((get_or ys j no_entry).rank ≡ (get_or xs i no_entry).rank) × ((get_or ys j no_entry).distance ≡ b)
@@ -110,7 +110,7 @@ told k rs xs ys d i b p q l m e le = go (merge xs ys) (merge_finds xs ys p q)
     go (Some a) n s = omega (arith, (n.1 (get_or xs i no_entry).rank ((get_or xs i no_entry).distance + b) shared).0)
 
 -- none does
-untold : (k : ℕ) (rs : List Record) (xs ys : List Entry) (d : ℕ) → Rising xs → Rising ys → Laid k rs ys (length ys) → ((i b : ℕ) → i < length xs → laid_at k rs (get_or xs i no_entry).rank ≡ Some b → d < (get_or xs i no_entry).distance + b) → Tells false d (sum_of (merge xs ys))
+pub untold : (k : ℕ) (rs : List Record) (xs ys : List Entry) (d : ℕ) → Rising xs → Rising ys → Laid k rs ys (length ys) → ((i b : ℕ) → i < length xs → laid_at k rs (get_or xs i no_entry).rank ≡ Some b → d < (get_or xs i no_entry).distance + b) → Tells false d (sum_of (merge xs ys))
 untold k rs xs ys d p q l none = go (merge xs ys) (merge_finds xs ys p q)
   where
     go : (o : Option Meeting) → Merged xs ys o → Less d (sum_of o)
@@ -124,7 +124,7 @@ untold k rs xs ys d p q l none = go (merge xs ys) (merge_finds xs ys p q)
         omega (arith, none x.0 (get_or ys y.0 no_entry).distance x.1 e, sh.sum, ap (λ (z : Entry). z.distance) x.2, ap (λ (z : Entry). z.distance) y.2)
 
 -- what a record of this round says of its rank
-laid_now : (k : ℕ) (rs : List Record) (r : ℕ) → (get_or rs r blank).laid_round ≡ k → laid_at k rs r ≡ Some (get_or rs r blank).laid
+pub laid_now : (k : ℕ) (rs : List Record) (r : ℕ) → (get_or rs r blank).laid_round ≡ k → laid_at k rs r ≡ Some (get_or rs r blank).laid
 laid_now k rs r e = rw (eq-eqb (get_or rs r blank).laid_round k e) refl
 
 -- what the test of an entry says

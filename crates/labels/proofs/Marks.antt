@@ -154,11 +154,11 @@ following_all ds tells k arcs s u d g i rs q nb at le f =
     (λ w len j. by_arc ds u w len arcs (known k rs w) (d + len) nb j (λ m l p z. subst (λ (y : ℕ). AtMost (known k rs y) (d + len)) p (subst (λ (y : ℕ). AtMost (known k rs (arc_at arcs m).to) (d + y)) z (f.hit m (omega arith)))))
 
 -- the arc leads back: to a place that has the hub, on a way of the length d
-abbrev LeadsBack : ℕ → List Record → ℕ → Arc → Type 0
+abbrev pub LeadsBack : ℕ → List Record → ℕ → Arc → Type 0
 LeadsBack k rs d a = (b : ℕ) × (got k rs a.to ≡ Some b) × (a.length + b ≡ d)
 
 -- the first arc that leads back, or none
-abbrev FirstBack : ℕ → List Record → ℕ → List Arc → Option Arc → Type 0
+abbrev pub FirstBack : ℕ → List Record → ℕ → List Arc → Option Arc → Type 0
 FirstBack k rs d arcs None = (i : ℕ) → i < length arcs → LeadsBack k rs d (arc_at arcs i) → ⊥
 FirstBack k rs d arcs (Some a) = (i : ℕ) × (i < length arcs) × (arc_at arcs i ≡ a) × LeadsBack k rs d (arc_at arcs i) × ((j : ℕ) → j < i → LeadsBack k rs d (arc_at arcs j) → ⊥)
 
@@ -167,10 +167,10 @@ module _ (ds : List Row) (k : ℕ) (rs : List Record) (v d x : ℕ) (arcs : List
   leads : (m : ℕ) → (arc_at arcs m).to ≡ x → (arc_at arcs m).length ≡ on.0 → LeadsBack k rs d (arc_at arcs m)
   leads m p z = (on.1, ap (got k rs) p ∙ on.3, ap (λ (y : ℕ). y + on.1) z ∙ on.4)
 
-  some_back : FirstBack k rs d arcs None → ⊥
+  pub some_back : FirstBack k rs d arcs None → ⊥
   some_back none = nb.whole x on.0 on.2 (All-from_get_or (λ a. a.to ≡ x → a.length ≡ on.0 → ⊥) arcs no_arc (λ m l p z. none m l (leads m p z)))
 
-  first_back : (a : Arc) → FirstBack k rs d arcs (Some a) → Back ds (got k rs) v d a.to × (a.to ≤ x)
+  pub first_back : (a : Arc) → FirstBack k rs d arcs (Some a) → Back ds (got k rs) v d a.to × (a.to ≤ x)
   first_back a (i, l, is, (b, g, z), none) =
       let e : (arc_at arcs i).to ≡ a.to = ap (λ (y : Arc). y.to) is in
       (((arc_at arcs i).length, b, subst (λ (y : ℕ). Joined ds v y (arc_at arcs i).length) e (All-get_or (λ a. Joined ds v a.to a.length) arcs i no_arc l nb.joined), ap (got k rs) (sym e) ∙ g, z), go (dec_le a.to x))

@@ -184,7 +184,7 @@ module _ {n : ℕ} {ds : List Row} {order : List ℕ} {w r : ℕ} {row : ℕ →
   }
 
   module _ (waiting : done (r + 1) rs e.place ≡ false) where
-    visiting : (arcs : List Arc) → Neighbours ds e.place arcs → Visiting n ds order w r row e arcs counts entries rs q q'
+    pub visiting : (arcs : List Arc) → Neighbours ds e.place arcs → Visiting n ds order w r row e arcs counts entries rs q q'
     visiting arcs nb = record { ready = ready; arcs_are = nb; bag = bag; first = first; floor = sweep.floor; searching = sweep.searching; waiting = waiting }
 
     -- its length is that of so few ducts

@@ -9,14 +9,14 @@ use Rattle.labels.specs.Memory.{SameMemory, SameRoom, SameRound}
 use Rattle.labels.specs.Table.{no_entry, count_of, row_in, Fits, Behind, Longer}
 
 -- the row of v ends before that of u begins, where v comes first
-apart : (v u w : ℕ) → v < u → v * w + w ≤ u * w
+pub apart : (v u w : ℕ) → v < u → v * w + w ≤ u * w
 apart v u w l =
     let more : v + 1 ≤ u = omega arith in
     let same : w ≤ w = omega arith in
     omega (arith, mul-le-mul more same, add-mul v 1 w, one-mul w)
 
 -- so many of its entries are within the memory
-inside : (n w v c : ℕ) → v < n → c ≤ w → v * w + c ≤ n * w
+pub inside : (n w v c : ℕ) → v < n → c ≤ w → v * w + c ≤ n * w
 inside n w v c l k = omega (arith, apart v n w l)
 
 pub row_length : (n w v : ℕ) (counts : List ℕ) (entries : List Entry) → Fits n w counts entries → v < n → length (row_in w counts entries v) ≡ count_of counts v

@@ -95,7 +95,7 @@ module _ {n : ℕ} {ds : List Row} {order : List ℕ} {w r : ℕ} {row : ℕ →
     now_upto : Upto (r + 1) (set rs e.place (staged (get_or rs e.place blank) t))
     now_upto = upto_set k rs e.place (staged (get_or rs e.place blank) t) at s.searching.upto (s.searching.upto.came e.place) (s.searching.upto.laid e.place)
 
-    settles : Settles (r + 1) e.place rs (set rs e.place (staged (get_or rs e.place blank) t))
+    pub settles : Settles (r + 1) e.place rs (set rs e.place (staged (get_or rs e.place blank) t))
     settles = (now_done, other_done)
 
   -- what the test of its row says
@@ -108,7 +108,7 @@ module _ {n : ℕ} {ds : List Row} {order : List ℕ} {w r : ℕ} {row : ℕ →
       subst (λ (zs : List Entry). Tells b e.distance (sum_of (merge zs (row (place order r))))) is (subst (λ (t : Bool). Tells t e.distance (sum_of (merge xs (row (place order r))))) (sym h) (told_by (r + 1) e.distance rs xs (row (place order r)) up (s.ready.exact.rising (place order r) source) s.searching.laid))
 
   -- the rows tell its distance: it is cut off
-  visit_cut : Tells true e.distance (sum_of (merge (row e.place) (row (place order r)))) → Searching n ds order w r row e.distance counts entries (set rs e.place (staged (get_or rs e.place blank) Cut)) q'
+  pub visit_cut : Tells true e.distance (sum_of (merge (row e.place) (row (place order r)))) → Searching n ds order w r row e.distance counts entries (set rs e.place (staged (get_or rs e.place blank) Cut)) q'
   visit_cut told = record {
     pruning = subst (λ (g : ℕ → Option ℕ). Pruning ds (Due ds g) tells (place order r) e.distance (known k new) (done k new) g q') got_path
         (subst (λ (N : ℕ → Option ℕ). Pruning ds (Due ds (got k rs)) tells (place order r) e.distance N (done k new) (got k rs) q') known_path
@@ -136,7 +136,7 @@ module _ {n : ℕ} {ds : List Row} {order : List ℕ} {w r : ℕ} {row : ℕ →
       known_path : known k rs ≡ known k new
       known_path = λ i v. sym (same_known Cut refl v) i
 
-  adds_cut : Adds (r + 1) e.place e.distance rs (set rs e.place (staged (get_or rs e.place blank) Cut))
+  pub adds_cut : Adds (r + 1) e.place e.distance rs (set rs e.place (staged (get_or rs e.place blank) Cut))
   adds_cut x c g = go (ℕ_discrete x e.place)
     where
       go : Dec (x ≡ e.place) → (got k rs x ≡ Some c) ⊎ ((x ≡ e.place) × (c ≡ e.distance))
@@ -212,7 +212,7 @@ module _ {n : ℕ} {ds : List Row} {order : List ℕ} {w r : ℕ} {row : ℕ →
               (old (got k rs v) refl (s.searching.written v i) (row_other n w e.place (record { rank = r; distance = e.distance; neighbour = x }) counts entries counts' entries' s.searching.fits iv more v i ne))
 
       -- its arcs were followed
-      visit_hub : (rs'' : List Record) (q'' : List SearchEntry) → Steady (r + 1) (set rs e.place (staged (get_or rs e.place blank) AtHub)) rs'' → Followed (r + 1) arcs e.distance (set rs e.place (staged (get_or rs e.place blank) AtHub)) q' rs'' q'' → Searching n ds order w r row e.distance counts' entries' rs'' q'' × Settles (r + 1) e.place rs rs'' × Adds (r + 1) e.place e.distance rs rs''
+      pub visit_hub : (rs'' : List Record) (q'' : List SearchEntry) → Steady (r + 1) (set rs e.place (staged (get_or rs e.place blank) AtHub)) rs'' → Followed (r + 1) arcs e.distance (set rs e.place (staged (get_or rs e.place blank) AtHub)) q' rs'' q'' → Searching n ds order w r row e.distance counts' entries' rs'' q'' × Settles (r + 1) e.place rs rs'' × Adds (r + 1) e.place e.distance rs rs''
       visit_hub rs'' q'' steady followed =
           let f = followed ds tells (place order r) e.place s.arcs_are is_got before_arcs in
           let got_path : got k hub_rs ≡ got k rs'' = λ i v. sym (f.1 v) i in (

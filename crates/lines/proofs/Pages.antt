@@ -12,7 +12,7 @@ take_then (suc c) [] ys = refl
 take_then (suc c) (x ∷ xs) ys = ap (λ (u : List ℕ). x ∷ u) (take_then c xs ys)
 
 -- one text after another
-puts_more : (u v w : Vec ℕ Global) (s t : List ℕ) → Puts u v s → Puts v w t → Puts u w (s ++ t)
+pub puts_more : (u v w : Vec ℕ Global) (s t : List ℕ) → Puts u v s → Puts v w t → Puts u w (s ++ t)
 puts_more u v w s t p q =
     let a = append_assoc (vec_items u) s t in
     let b = take_then (vec_capacity u) (vec_items u ++ s) t in

@@ -60,7 +60,7 @@ module _ {m : Meaning} {x : ℕ} {cs : List ℕ} {old : List Row} {m' : Meaning}
       (subst (λ (y : ℕ → Bool). Joinable m y cs) (sym g.focus)
       (λ c o. let r = reach c o in (r.0, (x, ix, focus_all (held x g.ducts) x (inl refl), (r.1.0, far_back m.count m.ducts s.lawful x c r.1.0 ix r.0 r.1.1)))))
 
-  few_ducts : k + 1 ≤ m.count
+  pub few_ducts : k + 1 ≤ m.count
   few_ducts = omega (arith, g.count, tree_few m.count m.ducts (net x g.ducts) g.tree)
 
   -- all are on the trunk
@@ -83,7 +83,7 @@ module _ {m : Meaning} {x : ℕ} {cs : List ℕ} {old : List Row} {m' : Meaning}
     next₀ : Next m (focus_on (held x g.ducts)) cs b
     next₀ = subst (λ (y : Meaning). Next y (focus_on (held x g.ducts)) cs b) g.meaning (subst (λ (y : ℕ → Bool). Next m' y cs b) g.focus n)
 
-    begins : Begun n' h' b
+    pub begins : Begun n' h' b
     begins =
         subst (λ (y : Meaning). Begun y h' b) (sym meant)
         (subst (λ (y : ℕ → Bool). Begun m y b) (sym held_so)
@@ -104,7 +104,7 @@ module _ {m : Meaning} {x : ℕ} {cs : List ℕ} {old : List Row} {m' : Meaning}
       tree₀ : IsTree m s x (g.ducts ++ laid b.from p.hops) × (weight (g.ducts ++ laid b.from p.hops) ≡ weight g.ducts + b.distance)
       tree₀ = grown_tree m s x g.ducts g.tree b (reach b.from next₀.chosen).0 next₀.near p.hops at walk₀
 
-      grows_on : Growing m x cs old m'' f'' rows'' k'' (w + b.distance)
+      pub grows_on : Growing m x cs old m'' f'' rows'' k'' (w + b.distance)
       grows_on = record {
         base = g.base;
         ducts = g.ducts ++ laid b.from p.hops;
@@ -120,7 +120,7 @@ module _ {m : Meaning} {x : ℕ} {cs : List ℕ} {old : List Row} {m' : Meaning}
           at_end : k ≡ 0 + length g.ducts
           at_end = omega (arith, g.count)
 
-      weight_fits : w + b.distance ≤ 4095000000
+      pub weight_fits : w + b.distance ≤ 4095000000
       weight_fits =
           let l = tree_light m.count m.ducts (net x (g.ducts ++ laid b.from p.hops)) s.lawful tree₀.0 in
           let c = tree_few m.count m.ducts (net x (g.ducts ++ laid b.from p.hops)) tree₀.0 in

@@ -43,7 +43,7 @@ module _ (m : Meaning) (s : Sound m) (f : ℕ → Bool) (v : ℕ) (iv : v < m.co
           let l : Later p v (Some 0) = subst (Later p v) self (k.3 v iv on) in
           eqb-false p.distance 0 e (omega (arith, l.0))))
 
-  focus_none : Nearest m.count f (far m v) None → false ≡ f v
+  pub focus_none : Nearest m.count f (far m v) None → false ≡ f v
   focus_none k = sym (not_true (f v) (λ on. not_both (k v iv on) self))
 
   -- whether the nearest is at the distance 0

@@ -11,7 +11,7 @@ use Rattle.plan.specs.Plans.{or_else, outside_groups, Admitted}
 some_none : {A : Type 0} (p : ℕ) → ◌≡◌ {A = Option ℕ} (Some p) None → A
 some_none p e = absurd (let z : ◌≡◌ {A = ℕ} 0 1 = cc in omega arith)
 
-none_outside : (n : ℕ) (ps : List ℕ) → outside n ps ≡ None → AllBelow n ps
+pub none_outside : (n : ℕ) (ps : List ℕ) → outside n ps ≡ None → AllBelow n ps
 none_outside n [] e = tt
 none_outside n (p ∷ ps) e = go (ltb p n) refl e (none_outside n ps)
   where
@@ -28,7 +28,7 @@ groups_inside n (g ∷ gs) e = go (outside n g) refl e (groups_inside n gs)
     go (Some p) t k r = some_none p k
 
 -- the first group, and the others
-parts : (gs : List (Few ℕ 16)) (group : Few ℕ 16) → group ≡ get_or gs 0 group → 1 ≤ length gs → members group ∷ lists (take (length gs - 1) (drop 1 gs)) ≡ lists gs
+pub parts : (gs : List (Few ℕ 16)) (group : Few ℕ 16) → group ≡ get_or gs 0 group → 1 ≤ length gs → members group ∷ lists (take (length gs - 1) (drop 1 gs)) ≡ lists gs
 parts [] group is l = absurd (omega arith)
 parts (g ∷ gs) group is l = ap (λ (p : Few ℕ 16). members p ∷ lists (take (length (g ∷ gs) - 1) gs)) is ∙ ap (λ (y : List (Few ℕ 16)). members g ∷ lists y) (take_all (length (g ∷ gs) - 1) gs (omega arith))
 

@@ -53,7 +53,7 @@ module _ {m : Meaning} {first : List ℕ} {others : List (List ℕ)} {cs : List 
   abbrev x : ℕ
   x = ch.start.place
 
-  start_within : x < m.count
+  pub start_within : x < m.count
   start_within = below_on m.count x first below ch.least.0
 
   chosen_reached : Reached m x cs
@@ -66,7 +66,7 @@ module _ {m : Meaning} {first : List ℕ} {others : List (List ℕ)} {cs : List 
   first_is : get_or cs 0 0 ≡ x
   first_is = ap (λ (ys : List ℕ). get_or ys 0 0) ch.around.1
 
-  some_chosen : 0 < length cs
+  pub some_chosen : 0 < length cs
   some_chosen = omega (arith, ap length ch.around.1)
 
   pub first_reached : {m' : Meaning} → m' ≡ m → Reached m' (get_or cs 0 0) cs

@@ -81,11 +81,15 @@ module _ {m : Meaning} {f : ℕ → Bool} {b : Branch} {rows : List Row} {k : �
   pub to_within : b.to < m'.count
   to_within = subst (λ (y : Meaning). b.to < y.count) (sym p.meaning) w.near.0
 
-  -- a walk has fewer ducts than there are places, and so has the trunk
-  pub few_hops : k' < 8192
+  -- a walk has fewer ducts than there are places
+  pub few_hops : k' ≤ k + 4096
   few_hops =
       let inside : AllBelow m.count (walked b.from p.hops) = all_below m.count (walked b.from p.hops) (λ q o. (walked_far m w.sound b.to b.from b.distance at p.hops w.near.0 w.within w.near.2 p.along part.2.0 part.2.1 q o).0) in
-      omega (arith, p.room, p.count, length_laid b.from p.hops, fit m.count (walked b.from p.hops) (walked_apart m w.sound b.to b.from b.distance at p.hops w.near.0 w.within w.near.2 p.along) inside, w.sound.few)
+      omega (arith, p.count, length_laid b.from p.hops, fit m.count (walked b.from p.hops) (walked_apart m w.sound b.to b.from b.distance at p.hops w.near.0 w.within w.near.2 p.along) inside, w.sound.few)
+
+  -- and so has the trunk
+  pub few_laid : k' < 8192
+  few_laid = omega (arith, few_hops, p.room, w.sound.few)
 
   -- on the trunk with the walk is what is on the trunk
   pub met_trunk : f' at ≡ true → f at ≡ true
@@ -113,7 +117,7 @@ module _ {m : Meaning} {f : ℕ → Bool} {b : Branch} {rows : List Row} {k : �
     onward : Onward m at b.to part.2.0 (m.rule at b.to)
     onward = rule_step m w.sound at b.to part.2.0 part.1 w.near.0 not_there part.2.1
 
-    on_way : step_of m' at b.to ≡ Next (m'.rule at b.to).to (m'.rule at b.to).length
+    pub on_way : step_of m' at b.to ≡ Next (m'.rule at b.to).to (m'.rule at b.to).length
     on_way =
         subst (λ (y : Meaning). step_of y at b.to ≡ Next (y.rule at b.to).to (y.rule at b.to).length) (sym p.meaning)
         (ap (λ (t : Bool). pick t Here (step_for (far m at b.to) (m.rule at b.to))) (ne_eqb at b.to not_there) ∙ ap (λ (o : Option ℕ). step_for o (m.rule at b.to)) part.2.1)

@@ -61,7 +61,7 @@ module _ (n : ℕ) (ds : List Row) (lawful : Lawful n ds) (u v : ℕ) (iu : u < 
   arc_joined i l = All-get_or (λ a. Joined ds u a.to a.length) ls i no_arc l near.joined
 
   -- the other ends are places
-  ends_within : (i : ℕ) → i < length ls → (arc_at ls i).to < n
+  pub ends_within : (i : ℕ) → i < length ls → (arc_at ls i).to < n
   ends_within i l = to_in n ds u (arc_at ls i).to (arc_at ls i).length lawful (arc_joined i l)
 
   -- the test of the code is that of the rule

@@ -5,7 +5,7 @@ use Rattle.oracle.specs.declared.walk.Leg.{Leg}
 use Rattle.oracle.specs.Asked.{LegFrom}
 use Rattle.oracle.specs.Meaning.{Meaning}
 use Rattle.plan.specs.declared.trunk.Trunk.{Trunk}
-use Rattle.plan.proofs.Walking.{Hopped, few_hops, missed_trunk, some_leg, place_within, nearer, passes_on}
+use Rattle.plan.proofs.Walking.{Hopped, few_laid, missed_trunk, some_leg, place_within, nearer, passes_on}
 use Rattle.plan.proofs.Growing.{Growing, joinable, all_held, walks, joins}
 use Rattle.plan.proofs.grow.grow.Given as given
 use Rattle.plan.proofs.grow.grow.Goals as goal
@@ -34,7 +34,7 @@ pub unreachable-requires : goal.unreachable-requires
 unreachable-requires g c = some_leg c.loop-place.invariant.0 c.loop-place.invariant.1 c.leg_from.ensures.value c.in_default-leg_from.is
 
 pub overflow_add-ducts : goal.overflow_add-ducts
-overflow_add-ducts g c = omega (arith, few_hops c.loop-place.invariant.0)
+overflow_add-ducts g c = omega (arith, few_laid c.loop-place.invariant.0)
 
 pub in_focus-requires : goal.in_focus-requires
 in_focus-requires g c =
